@@ -1,7 +1,8 @@
 // The reading and writing of graph files.
 use crate::clock::micros_since;
 use crate::files::{bytes_of, next_word};
-use graph_file::{read_graph, write_graph};
+use graph_file::read_graph;
+use graph_writer::write_graph;
 use serde_json::Value;
 use std::alloc::Global;
 use std::env::Args;

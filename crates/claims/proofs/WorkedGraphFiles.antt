@@ -35,7 +35,7 @@ use Rattle.graph_file.proofs.PlanLemmas.{IsPlan-read}
 use Rattle.json.specs.Print.{escape_byte}
 use Rattle.std.specs.Fmt.{digits}
 use Rattle.graph_file.specs.Steps.{otherwise, walk}
-use Rattle.graph_file.specs.WrittenPlan.{each_data, module_data, module_with, op_text, to_of, plan_data, file_data, sem_data, sems_from, sems_named, spread_text, task_data, tasks_data, plan_text}
+use Rattle.graph_writer.specs.WrittenPlan.{each_data, module_data, module_with, op_text, to_of, plan_data, file_data, sem_data, sems_from, sems_named, spread_text, task_data, tasks_data, plan_text}
 
 abbrev a : List ℕ
 a = codes "a"

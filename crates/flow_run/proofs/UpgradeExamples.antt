@@ -4,7 +4,7 @@ use Rattle.std.specs.Prelude.{bytes_eq, if◌then◌else◌}
 use Rattle.graph_plans.specs.PlanRows.{PlanRows}
 use Rattle.graph_plans.specs.declared.spots.Spot.TheVariants.{File}
 use Rattle.graph_file.specs.PlanText.{PlanText}
-use Rattle.graph_file.specs.WrittenPlan.{plan_text}
+use Rattle.graph_writer.specs.WrittenPlan.{plan_text}
 use Rattle.call_status.specs.declared.status.Status.TheVariants.{Done, NoText, WriteFault}
 use Rattle.call_status.specs.declared.status.Status.TheVariants as status
 use Rattle.call_status.specs.declared.stop.Stop.{Stop}

@@ -3,7 +3,7 @@ use Rattle.std.specs.Prelude.{◌≡◌, ◌⊎◌, ℕ, List, Option, Some, Non
 use Rattle.outside_io.specs.Sink.{Took}
 use Rattle.graph_plans.specs.PlanRows.{PlanRows}
 use Rattle.graph_file.specs.PlanText.{PlanText}
-use Rattle.graph_file.specs.WrittenPlan.{plan_text}
+use Rattle.graph_writer.specs.WrittenPlan.{plan_text}
 use Rattle.call_status.specs.declared.status.Status.{Status}
 use Rattle.call_status.specs.Stopping.{StoppedBefore}
 use Rattle.flow_run.specs.declared.conclusion.Conclusion.{Conclusion}

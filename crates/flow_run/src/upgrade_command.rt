@@ -10,7 +10,7 @@ use super::conclusion::Conclusion;
 use super::inputs::{FILE_LIMIT, plan_in, read_named};
 use call_status::{Status, Stop, deliver};
 use command_line::Upgrade;
-use graph_file::write_graph;
+use graph_writer::write_graph;
 use outside_io::{Bytes, List, Sink, SinkFault, Texts};
 use std::alloc::Global;
 

@@ -20,6 +20,3 @@ json_in-refused bytes none = refused-step (is_utf8 bytes) (read bytes) (λ is. n
 
 pub text_is_utf8 : (text : List ℕ) → IsUtf8 text → is_utf8 text ≡ true
 text_is_utf8 = is_utf8-from_IsUtf8
-
-pub utf8_of : (text : List ℕ) → is_utf8 text ≡ true → IsUtf8 text
-utf8_of = IsUtf8-from_is_utf8

@@ -21,11 +21,6 @@ pub mod PipeLemmas
 pub mod PlanLemmas
 pub mod UseLemmas
 pub mod MentionLemmas
-pub mod WritingLemmas
 pub mod CycleLemmas
-pub mod SettledNets
-pub mod WrittenLemmas
-pub mod TripLemmas
-pub mod WritableLemmas
 pub mod ReadingLemmas
 pub mod GraphLemmas

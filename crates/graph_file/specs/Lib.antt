@@ -3,5 +3,4 @@ pub mod Contents
 pub mod Fields
 pub mod OpRows
 pub mod PlanText
-pub mod WrittenPlan
 pub mod inside

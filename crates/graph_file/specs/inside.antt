@@ -1,6 +1,5 @@
 -- Internal: what the reader's steps answer, and what sets and maps know of names.
 pub mod Reader
-pub mod Writer
 pub mod Drafts
 pub mod Fine
 pub mod Lookups

@@ -25,3 +25,10 @@ pub(crate) fn with<T>(fields: &'static [&'static str], op: T) -> FoundOp<T>
 {
     FoundOp { op, fields }
 }
+
+/// One that is in a file as in a plan, with these fields of its own.
+pub(crate) fn does<'v>(fields: &'static [&'static str], op: Op) -> FoundOp<FileOp<'v>>
+    ensures { result ≡ record { op = FileOp.Does op; fields = fields.entry } }
+{
+    with(fields, FileOp::Does(op))
+}

@@ -1,11 +1,10 @@
 //! Graph files: the JSON text of a task graph, and the plan that it stands for.
 //!
 //! Files have two versions, which differ in how tasks name their semaphores. `read_graph` gives the plan that bytes of
-//! either version stand for, or the first reason why they stand for none; `write_graph` gives bytes of the second
-//! version that stand for a plan. The layer above knows the plan as its rows (`plan_rows` of `graph_plans`), by one
-//! definition: `read_plan` in `specs/PlanText.antt` is a walk over the file that gives the plan or the first refusal.
-//! `Steps` says what becomes of a walk where a step refuses, `Contents` what fields may hold, `Fields` how an object's
-//! fields are found and refused, `OpRows` has a row for each operation, and `WrittenPlan` says how a plan is written.
+//! either version stand for, or the first reason why they stand for none. The layer above knows the plan as its rows
+//! (`plan_rows` of `graph_plans`), by one definition: `read_plan` in `specs/PlanText.antt` is a walk over the file that
+//! gives the plan or the first refusal. `Steps` says what becomes of a walk where a step refuses, `Contents` what fields
+//! may hold, `Fields` how an object's fields are found and refused, and `OpRows` has a row for each operation.
 #![tactic(auto)]
 
 mod bad_fields;
@@ -20,9 +19,7 @@ mod limits;
 mod lookups;
 mod nets;
 mod numbers;
-mod op_writer;
 mod ops;
-mod pipe_writer;
 mod pipelines;
 mod pipes;
 mod reader;
@@ -35,10 +32,8 @@ mod tasks;
 mod texts;
 mod unknown;
 mod uses;
-mod writer;
 
 pub use numbers::TaskNumbers;
 pub use reader::read_graph;
 pub use refusals::{GraphError, Kind};
 pub use scopes::Scope;
-pub use writer::write_graph;

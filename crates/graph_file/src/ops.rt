@@ -9,7 +9,7 @@ use crate::bad_fields::bad_field;
 use crate::fields::{
     read_lines, read_module_name, read_part_lines, read_text_name, read_word, read_words,
 };
-use crate::file_op::{FileOp, FoundOp, with};
+use crate::file_op::{FileOp, FoundOp, does, with};
 use crate::pipes::read_pipe;
 use crate::refusals::GraphError;
 use crate::unknown::check_fields;
@@ -50,36 +50,24 @@ fn read_op_called<'v>(
     ensures { ReadsAs found_op result (op_called op_rows name.now spot (view object.now)) }
 {
     Ok(match name {
-        "input" => with(&[], FileOp::Does(Op::Input)),
+        "input" => does(&[], Op::Input),
         "read" => with(
             &["text"],
             FileOp::Reads(read_text_name(alloc, spot, object)?),
         ),
-        "match" => with(&[], FileOp::Does(Op::Match)),
-        "back" => with(&[], FileOp::Does(Op::Back)),
-        "ifmore" => with(
-            &["n"],
-            FileOp::Does(Op::IfMore(read_lines(alloc, spot, object)?)),
-        ),
-        "ifhas" => with(
-            &["word"],
-            FileOp::Does(Op::IfHas(read_word(alloc, spot, object)?)),
-        ),
-        "route" => with(
-            &["words"],
-            FileOp::Does(Op::Route(read_words(alloc, spot, object)?)),
-        ),
-        "spread" => with(
-            &["n", "each"],
-            FileOp::Does(read_spread(alloc, spot, object)?),
-        ),
+        "match" => does(&[], Op::Match),
+        "back" => does(&[], Op::Back),
+        "ifmore" => does(&["n"], Op::IfMore(read_lines(alloc, spot, object)?)),
+        "ifhas" => does(&["word"], Op::IfHas(read_word(alloc, spot, object)?)),
+        "route" => does(&["words"], Op::Route(read_words(alloc, spot, object)?)),
+        "spread" => does(&["n", "each"], read_spread(alloc, spot, object)?),
         "module" => with(
             &["module"],
             FileOp::Runs(read_module_name(alloc, spot, object)?),
         ),
-        "pipe" => with(
+        "pipe" => does(
             &["lines", "n", "pipes", "defer"],
-            FileOp::Does(read_pipe(alloc, spot, object)?),
+            read_pipe(alloc, spot, object)?,
         ),
         _ => return read_used_text_op(alloc, name, spot, object),
     })
@@ -133,7 +121,7 @@ fn read_used_text_op<'v>(
         (view object.now)) }
 {
     match read_text_op(alloc, name, spot, object) {
-        Ok(found) => Ok(with(found.fields, FileOp::Does(Op::Text(found.op)))),
+        Ok(found) => Ok(does(found.fields, Op::Text(found.op))),
         Err(refusal) => Err(refusal),
     }
 }

@@ -17,6 +17,7 @@ pub enum LineOp {
 /// A pipeline for the parts of a text.
 #[derive(Drop)]
 pub struct PipePlan {
+    /// How many lines there are, and of each pipe whether it is serial.
     pub spec: PipeSpec,
     /// What each pipe does.
     pub ops: List<LineOp>,

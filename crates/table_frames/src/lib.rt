@@ -7,8 +7,8 @@
 //!
 //! A release that finds no unit of a semaphore is parked (`semaphore_turns`), and wakes up among the releases that a
 //! later step makes. A step takes the lock of what is parked only where units are wanted or came back, and the lock of
-//! its frame's keeper only where it opens a run inside the frame. Where a worker has nothing else to do, and has brought what it did, `Frame::settle` looks whether all that is
-//! left is parked.
+//! its frame's keeper only where it opens a run inside the frame. Where a worker has nothing else to do, and has
+//! brought what it did, `Frame::settle` looks whether all that is left is parked.
 //!
 //! What became of the releases is for the frame's keeper, which stands behind a lock. A worker needn't take that lock
 //! for each step: its `Backlog` has what its steps have done, and `Frame::bring` hands it to the keeper, at the latest

@@ -1,6 +1,7 @@
 // What becomes of a file, in words.
-use graph_file::{GraphError, Kind, read_graph, write_graph};
+use graph_file::{GraphError, Kind, read_graph};
 use graph_plans::Spot;
+use graph_writer::write_graph;
 use outside_io::{Bytes, NoMemory};
 use pipe_lines::PipeError;
 use std::alloc::{AllocError, Global};

@@ -13,6 +13,9 @@ use memchr::{memchr, memchr_iter, memrchr};
 // Line ends are counted in blocks of so many bytes, which is faster than to go from one to the next.
 const BLOCK: usize = 4096;
 
+// Of no more line ends than these none are counted in blocks: a short part of a text isn't worth a block.
+const FEW: u64 = 64;
+
 /// The first `n` lines, or all where there are fewer.
 pub fn head(text: &Text, n: u64) -> Result<Text, ApplyError>
     ensures { Makes (head_meaning n text.now) result }
@@ -84,7 +87,7 @@ fn blocks_before(text: &[u8], n: u64) -> (usize, u64)
 {
     let mut at = 0;
     let mut left = n;
-    while text.len() - at > BLOCK {
+    while left > FEW && text.len() - at > BLOCK {
         let ends = memchr_iter(b'\n', &text[at..at + BLOCK]).count() as u64;
         if ends >= left {
             break;
@@ -102,7 +105,7 @@ fn blocks_behind(text: &[u8], n: u64) -> (usize, u64)
 {
     let mut end = text.len();
     let mut left = n;
-    while end > BLOCK {
+    while left > FEW && end > BLOCK {
         let ends = memchr_iter(b'\n', &text[end - BLOCK..end]).count() as u64;
         if ends >= left {
             break;

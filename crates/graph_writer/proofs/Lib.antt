@@ -1,0 +1,5 @@
+pub mod WritingLemmas
+pub mod SettledNets
+pub mod WrittenLemmas
+pub mod TripLemmas
+pub mod WritableLemmas

@@ -1,0 +1,2 @@
+pub mod WrittenPlan
+pub mod inside

@@ -1,0 +1,2 @@
+-- Internal: what the writer needs of a plan.
+pub mod Writer
