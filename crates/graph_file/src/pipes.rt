@@ -2,7 +2,6 @@
 ghost use Rattle.std.specs.Prelude.{◌≡◌, [], codes, map, option_and_then, option_map};
 ghost use Rattle.serde_json.specs.Find.{as_bool, get};
 ghost use Rattle.serde_json.specs.View.{view};
-ghost use Rattle.pipe_lines.specs.DeferRows.{is_deferred};
 ghost use Rattle.graph_file.specs.Contents.{defer_objects_of, part_size_of, pipe_lines_of, target_items_of, targets_of, token_number_of, whole_of};
 ghost use Rattle.graph_file.specs.Fields.{allowed, needed};
 ghost use Rattle.graph_file.specs.OpRows.{add_defer, add_pipe, defers_in, line_rows, may_have, op_called, op_in, pipe_in, pipes_in, text_rows, used_by};
@@ -18,7 +17,9 @@ use crate::refusals::GraphError;
 use crate::unknown::check_fields;
 use graph_plans::{LineOp, Op, PipePlan, Spot};
 use outside_io::List;
-use pipe_lines::{DeferRow, MAX_DEFER_ROWS, MAX_TARGET, MAX_TARGETS, MAX_TOKENS, PipeSpec};
+use pipe_lines::{
+    DeferRow, MAX_DEFER_ROWS, MAX_TARGET, MAX_TARGETS, MAX_TOKENS, PipeSpec, is_deferred,
+};
 use serde_json::Value;
 use std::alloc::Global;
 
@@ -266,13 +267,6 @@ fn token_number_of(value: &Value) -> Option<u64>
     ensures { result ≡ token_number_of (view value.now) }
 {
     whole_of(value, 0, MAX_TOKENS - 1)
-}
-
-// Whether a token has one of these rows.
-fn is_deferred(rows: &[DeferRow], token: u64) -> bool
-    ensures { result ≡ is_deferred rows.now token }
-{
-    rows.iter().any(|row| row.token == token)
 }
 
 fn read_targets(alloc: Global, spot: Spot, object: &Value) -> Result<List<u64>, GraphError>

@@ -53,15 +53,15 @@ fn are_apart(rows: &[DeferRow]) -> bool
     ensures { IsTrue result ↔ AreApart rows.now }
 {
     for (place, row) in rows.iter().enumerate() {
-        if has_row(&rows[place + 1..], row.token) {
+        if is_deferred(&rows[place + 1..], row.token) {
             return false;
         }
     }
     true
 }
 
-// Whether one of these rows is of the token.
-fn has_row(rows: &[DeferRow], token: u64) -> bool
+/// Whether one of these rows is of the token.
+pub fn is_deferred(rows: &[DeferRow], token: u64) -> bool
     ensures { result ≡ is_deferred rows.now token }
 {
     rows.iter().any(|row| row.token == token)

@@ -16,7 +16,9 @@ mod pipeline;
 mod tags;
 mod waits;
 
-pub use deferral::{DeferRow, MAX_DEFER_ROWS, MAX_TARGET, MAX_TARGETS, MAX_TOKENS, are_defer_rows};
+pub use deferral::{
+    DeferRow, MAX_DEFER_ROWS, MAX_TARGET, MAX_TARGETS, MAX_TOKENS, are_defer_rows, is_deferred,
+};
 pub use gate::Gate;
 pub use laws::{all_tokens_pass, tokens_pass_in_turn, tokens_pass_once};
 pub use net::pipe_net;

@@ -4,12 +4,12 @@ use Rattle.pipe_lines.proofs.DeferLemmas.{apart_more, not_apart}
 use Rattle.pipe_lines.proofs.deferral.are_apart.Goals as goal
 
 pub loop-place-preserved : goal.loop-place-preserved
-loop-place-preserved c = apart_more c.args.rows.now c.loop-place.place c.index-rows-place.result c.loop-place-test.true c.index-rows-place.is (sym c.has_row.ensures ∙ c.if-has_row.false) c.loop-place.invariant
+loop-place-preserved c = apart_more c.args.rows.now c.loop-place.place c.index-rows-place.result c.loop-place-test.true c.index-rows-place.is (sym c.is_deferred.ensures ∙ c.if-is_deferred.false) c.loop-place.invariant
 
-pub returns-then-has_row : goal.returns-then-has_row
-returns-then-has_row c = (
+pub returns-then-is_deferred : goal.returns-then-is_deferred
+returns-then-is_deferred c = (
   (λ no. absurd (false≢true no)),
-  λ apart. absurd (not_apart c.args.rows.now c.loop-place.place c.index-rows-place.result c.loop-place-test.true c.index-rows-place.is (sym c.has_row.ensures ∙ c.if-has_row.true) apart),
+  λ apart. absurd (not_apart c.args.rows.now c.loop-place.place c.index-rows-place.result c.loop-place-test.true c.index-rows-place.is (sym c.is_deferred.ensures ∙ c.if-is_deferred.true) apart),
 )
 
 pub returns : goal.returns
