@@ -6,8 +6,8 @@ use Rattle.task_graph.specs.declared.net.Shape.TheVariants.{Plain}
 use Rattle.task_graph.specs.declared.net.TaskRow.{TaskRow}
 use Rattle.call_status.specs.declared.status.Status.TheVariants.{Done, Limit, NoMemory, WriteFault}
 use Rattle.command_line.specs.Requests.{Asked, once, run, check}
-use Rattle.run_laws.specs.PlainReport.{IsPlainJob}
-use Rattle.run_laws.specs.SmallPlans.{chooses_a_branch, kept_together, worked_job}
+use Rattle.report_laws.specs.PlainReport.{IsPlainJob}
+use Rattle.report_laws.specs.SmallPlans.{chooses_a_branch, kept_together, worked_job}
 use Rattle.text_tasks.specs.declared.job.TextJob.{TextJob}
 use Rattle.flow_run.specs.Requests.{SourceTexts}
 use Rattle.flow_run.specs.Plainly.{AsksPlainly, EndsPlainly}

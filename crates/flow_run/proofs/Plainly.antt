@@ -21,10 +21,11 @@ use Rattle.text_ops.specs.Lines.{normal}
 use Rattle.text_tasks.specs.declared.job.TextJob.{TextJob}
 use Rattle.text_tasks.specs.declared.job.TextJob.TheVariants.{Graph, Parts, Pipe}
 use Rattle.text_tasks.specs.JobMeaning.{text_job}
-use Rattle.run_laws.specs.PlainReport.{HasSameReport, IsPlainJob, IsPlanned, RunsWell, plain_report}
+use Rattle.run_laws.specs.TextAnswers.{IsPlanned}
+use Rattle.report_laws.specs.PlainReport.{HasSameReport, IsPlainJob, RunsWell, plain_report}
 use Rattle.pipe_laws.specs.TextPipes.{PipesInOrder}
 use Rattle.pipe_laws.proofs.TextInside.{pipes_in_order}
-use Rattle.run_laws.proofs.TextPlain.{same_report}
+use Rattle.report_laws.proofs.TextPlain.{same_report}
 use Rattle.flow_run.specs.declared.conclusion.Conclusion.{Conclusion}
 use Rattle.flow_run.specs.Requests.{SourceTexts, CanBeRun, IsHeld, IsRequestedJob, IsTextOf, TextsAre, file_limit, text_limit}
 use Rattle.nested_runs.specs.Rounds.{AreAllRounds, AreFirstRounds, AreRounds}

@@ -17,7 +17,7 @@ use Rattle.text_tasks.specs.declared.job.TextJob.{TextJob}
 use Rattle.text_tasks.specs.declared.job.TextJob.TheVariants.{Graph, Parts, Pipe}
 use Rattle.text_tasks.specs.JobMeaning.{names_of, text_job}
 use Rattle.profile_table.proofs.ProfileLemmas.{row_for_each_task}
-use Rattle.run_laws.specs.PlainReport.{IsPlanned}
+use Rattle.run_laws.specs.TextAnswers.{IsPlanned}
 use Rattle.flow_run.specs.Requests.{SourceTexts, IsRequestedJob}
 use Rattle.flow_run.specs.declared.conclusion.Conclusion.{Conclusion}
 use Rattle.flow_run.specs.declared.conclusion.Conclusion.TheVariants.{Profile}

@@ -6,7 +6,7 @@ use Rattle.text_tasks.specs.declared.job.TextJob.{TextJob}
 use Rattle.call_status.specs.declared.status.Status.{Status}
 use Rattle.call_status.specs.declared.status.Status.TheVariants.{Done, NoMemory}
 use Rattle.command_line.specs.Requests.{Asked, once, run}
-use Rattle.run_laws.specs.PlainReport.{HasSameReport, IsPlainJob, RunsWell, plain_report}
+use Rattle.report_laws.specs.PlainReport.{HasSameReport, IsPlainJob, RunsWell, plain_report}
 use Rattle.flow_run.specs.Requests.{SourceTexts, IsRequestedJob}
 use Rattle.flow_run.specs.Answers.{TextRun}
 
