@@ -113,9 +113,6 @@ module _ (work : PipeWork) (is : IsPipeWork work) (limit : ℕ) (values : List (
   pub text_ended : (n token y : ℕ) → passed_at work.order n ≡ Token token → ends_token pipes h values n y ≡ true → option_map_or item_text (value_at values y) [] ≡ text_at work n token pipes
   text_ended n token y has ends = by_task (ended_at h y) refl ends
     where
-      abbrev Tests : Option ℕ → Option Item → Bool
-      Tests t v = cond (option_map_or (in_last_pipe pipes) t false) (option_map_or (λ item. item_place item == n) v false) false
-
       by_value : (t : ℕ) → ended_at h y ≡ Some t → in_last_pipe pipes t ≡ true → (o : Option Item) → value_at values y ≡ o → option_map_or (λ item. item_place item == n) o false ≡ true → option_map_or item_text o [] ≡ text_at work n token pipes
       by_value t is_t in_last None none no = absurd (false≢true no)
       by_value t is_t in_last (Some v) is_v hit =
@@ -140,7 +137,7 @@ module _ (work : PipeWork) (is : IsPipeWork work) (limit : ℕ) (values : List (
       by_last t is_t false other no = absurd (false≢true no)
       by_last t is_t true in_last hit = by_value t is_t in_last (value_at values y) refl hit
 
-      by_task : (o : Option ℕ) → ended_at h y ≡ o → Tests o (value_at values y) ≡ true → option_map_or item_text (value_at values y) [] ≡ text_at work n token pipes
+      by_task : (o : Option ℕ) → ended_at h y ≡ o → cond (option_map_or (in_last_pipe pipes) o false) (option_map_or (λ item. item_place item == n) (value_at values y) false) false ≡ true → option_map_or item_text (value_at values y) [] ≡ text_at work n token pipes
       by_task None none no = absurd (false≢true no)
       by_task (Some t) is_t hit = by_last t is_t (in_last_pipe pipes t) refl hit
 

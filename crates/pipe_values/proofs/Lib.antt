@@ -6,3 +6,4 @@ pub mod EndTexts
 pub mod Gathered
 pub mod Uncut
 pub mod Values
+pub mod WorkedValues

@@ -55,6 +55,10 @@ module _ {V : Type 0} (pipeline : Pipeline V) (one : OneAnswer V) (limit : ℕ) 
   abbrev ends_at : ℕ → ℕ → List (TaskEnd V)
   ends_at l p = ends_in values (start_at h) (task l p) h
 
+  -- those that signalled an edge
+  abbrev signalled : ℕ → ℕ → ℕ → List (TaskEnd V)
+  signalled e l p = filter (signals e) (ends_at l p)
+
   -- the k-th end of the cell before, which has a token
   pub record ComesAlong (l p k : ℕ) (input : InputValue V) : Type 0 where
     pub token : ℕ
@@ -82,19 +86,16 @@ module _ {V : Type 0} (pipeline : Pipeline V) (one : OneAnswer V) (limit : ℕ) 
       from : ComesFrom pipeline.lines pipeline.serials (length pipeline.serials) (task l) (suc p) along.edge
       from = along_line_into pipeline.lines pipeline.serials l (suc p) along.edge in_p along.is tag
 
-      abbrev signalled : ℕ → List (TaskEnd V)
-      signalled q = filter (signals along.edge) (ends_at l q)
-
       -- that edge begins without a token
-      tokens_are : from.edge.row.start ≡ false → tokens_in net values (start_at h) along.edge h ≡ map (λ (end : TaskEnd V). value end.value) (signalled from.before)
+      tokens_are : from.edge.row.start ≡ false → tokens_in net values (start_at h) along.edge h ≡ map (λ (end : TaskEnd V). value end.value) (signalled along.edge l from.before)
       tokens_are starts =
           ap (λ r. tokens net along.edge (ends_in values (start_at h) r h)) (source_is pipeline.lines pipeline.serials along.edge from.edge from.at ∙ from.from)
-          ∙ ap (λ ts. ts ++ map (λ (end : TaskEnd V). value end.value) (signalled from.before)) none
+          ∙ ap (λ ts. ts ++ map (λ (end : TaskEnd V). value end.value) (signalled along.edge l from.before)) none
         where
           none : begun {V = V} net along.edge ≡ []
           none = ap (λ o. option_map_or (λ (r : EdgeRow). cond r.start (first ∷ []) []) o []) (row_at pipeline.lines pipeline.serials along.edge from.edge from.at) ∙ ap (λ s. cond s (first ∷ []) []) starts
 
-      by_end : from.before ≡ p → (o : Option (TaskEnd V)) → slice_get (signalled from.before) k ≡ o → option_map (λ (end : TaskEnd V). value end.value) o ≡ Some (line_input pipeline (task l (suc p)) found) → ComesAlong l p k (line_input pipeline (task l (suc p)) found)
+      by_end : from.before ≡ p → (o : Option (TaskEnd V)) → slice_get (signalled along.edge l from.before) k ≡ o → option_map (λ (end : TaskEnd V). value end.value) o ≡ Some (line_input pipeline (task l (suc p)) found) → ComesAlong l p k (line_input pipeline (task l (suc p)) found)
       by_end same None at none = absurd (none-some _ none)
       by_end same (Some end) at some =
           let there = end_signalled pipeline one is.cells is.first_serial values (start_at h) h l from.before k along.edge from.edge end (all_ends pipeline one limit values h is) in_l from.below from.at from.from at in
@@ -103,8 +104,8 @@ module _ {V : Type 0} (pipeline : Pipeline V) (one : OneAnswer V) (limit : ℕ) 
       by_round : GoesOn (length pipeline.serials) from.before (suc p) from.edge.row.start → ComesAlong l p k (line_input pipeline (task l (suc p)) found)
       by_round (goes_round starts p_is last) = absurd (omega (arith, p_is))
       by_round (goes_up starts p_is) =
-          by_end (omega (arith, p_is)) (slice_get (signalled from.before) k) refl
-          (sym (slice_get-map (λ (end : TaskEnd V). value end.value) (signalled from.before) k) ∙ sym (ap (λ ts. slice_get ts k) (tokens_are starts)) ∙ along.found)
+          by_end (omega (arith, p_is)) (slice_get (signalled along.edge l from.before) k) refl
+          (sym (slice_get-map (λ (end : TaskEnd V). value end.value) (signalled along.edge l from.before) k) ∙ sym (ap (λ ts. slice_get ts k) (tokens_are starts)) ∙ along.found)
 
 -- ---- the text of each end
 
