@@ -44,16 +44,16 @@ module _ (token place : ℕ) where
       ∙ ap Some (sym (after_first op ops text (length ops)))
 
   pub short_behind : (ops : List LineOp) (text last : List ℕ) → text_behind ops token place text ≡ Some last → AllShort ops token place text
-  short_behind [] text last is p below = absurd (omega (arith, below))
-  short_behind (op ∷ ops) text last is = by_test (nat_le (length made) value_limit) refl is
+  short_behind [] text last is = λ p below. absurd (omega (arith, below))
+  short_behind (op ∷ ops) text last is = by_test (nat_le (length made) value_limit) refl is (short_behind ops (line_op_value op token place text) last)
     where
       made : List ℕ
       made = line_op_value op token place text
 
-      by_test : (b : Bool) → nat_le (length made) value_limit ≡ b → cond b (text_behind ops token place made) None ≡ Some last → AllShort (op ∷ ops) token place text
-      by_test false long none = absurd (none-some _ none)
-      by_test true short rest zero below = short_is made short
-      by_test true short rest (suc p) below = subst (λ t. length t ≤ value_limit) (sym (after_first op ops text (suc p))) (short_behind ops made last rest p (omega (arith, below)))
+      by_test : (b : Bool) → nat_le (length made) value_limit ≡ b → cond b (text_behind ops token place made) None ≡ Some last → (text_behind ops token place made ≡ Some last → AllShort ops token place made) → AllShort (op ∷ ops) token place text
+      by_test false long none later p below = absurd (none-some _ none)
+      by_test true short rest later zero below = short_is made short
+      by_test true short rest later (suc p) below = subst (λ t. length t ≤ value_limit) (sym (after_first op ops text (suc p))) (later rest p (omega (arith, below)))
 
 -- ---- all tokens
 
@@ -73,23 +73,26 @@ module _ (work : PipeWork) where
 
   -- where all have one, each has
   pub texts_each : (place : ℕ) (tokens texts : List ℕ) → texts_behind work place tokens ≡ Some texts → (i k : ℕ) → slice_get tokens i ≡ Some k → AllShort work.ops k (place + i) (part_of k)
-  texts_each place [] texts is i k at = absurd (none-some k at)
-  texts_each place (j ∷ tokens) texts is = by_text (text_behind work.ops j place (part_of j)) refl is
+  texts_each place [] texts is = λ i k at. absurd (none-some k at)
+  texts_each place (j ∷ tokens) texts is = by_text (text_behind work.ops j place (part_of j)) refl is (texts_each (place + 1) tokens)
     where
       Each : Type 0
       Each = (i k : ℕ) → slice_get (j ∷ tokens) i ≡ Some k → AllShort work.ops k (place + i) (part_of k)
 
-      by_rest : (text : List ℕ) → text_behind work.ops j place (part_of j) ≡ Some text → (rest : Option (List ℕ)) → texts_behind work (place + 1) tokens ≡ rest → option_map (λ ts. text ++ ts) rest ≡ Some texts → Each
-      by_rest text here None none all = absurd (none-some _ all)
-      by_rest text here (Some ts) there all zero k at =
+      Later : Type 0
+      Later = (ts : List ℕ) → texts_behind work (place + 1) tokens ≡ Some ts → (i k : ℕ) → slice_get tokens i ≡ Some k → AllShort work.ops k ((place + 1) + i) (part_of k)
+
+      by_rest : (text : List ℕ) → text_behind work.ops j place (part_of j) ≡ Some text → Later → (rest : Option (List ℕ)) → texts_behind work (place + 1) tokens ≡ rest → option_map (λ ts. text ++ ts) rest ≡ Some texts → Each
+      by_rest text here later None none all i k at = absurd (none-some _ all)
+      by_rest text here later (Some ts) there all zero k at =
           let same : j ≡ k = same_Some _ _ at in
           let first : place ≡ place + 0 = omega arith in
           subst (λ n. AllShort work.ops k n (part_of k)) first (subst (λ t. AllShort work.ops t place (part_of t)) same (short_behind j place work.ops (part_of j) text here))
-      by_rest text here (Some ts) there all (suc i) k at =
+      by_rest text here later (Some ts) there all (suc i) k at =
           let next : (place + 1) + i ≡ place + suc i = omega arith in
-          subst (λ n. AllShort work.ops k n (part_of k)) next (texts_each (place + 1) tokens ts there i k at)
+          subst (λ n. AllShort work.ops k n (part_of k)) next (later ts there i k at)
 
       by_text : (text : Option (List ℕ)) → text_behind work.ops j place (part_of j) ≡ text
-          → option_and_then (λ t. option_map (λ ts. t ++ ts) (texts_behind work (place + 1) tokens)) text ≡ Some texts → Each
-      by_text None none all = absurd (none-some _ all)
-      by_text (Some text) here all = by_rest text here (texts_behind work (place + 1) tokens) refl all
+          → option_and_then (λ t. option_map (λ ts. t ++ ts) (texts_behind work (place + 1) tokens)) text ≡ Some texts → Later → Each
+      by_text None none all later = absurd (none-some _ all)
+      by_text (Some text) here all later = by_rest text here later (texts_behind work (place + 1) tokens) refl all

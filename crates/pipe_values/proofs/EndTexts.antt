@@ -17,7 +17,7 @@ use Rattle.pipe_lines.specs.declared.order.Passed.TheVariants.{Token}
 use Rattle.pipe_lines.specs.Orders.{passed_at}
 use Rattle.pipe_lines.specs.PipeNet.{cell_row}
 use Rattle.text_tasks.specs.declared.item.Item.{Item}
-use Rattle.text_tasks.specs.Cells.{cell_task, pipeline_net}
+use Rattle.text_tasks.specs.Cells.{cell_task, line_input, pipeline_net}
 use Rattle.text_tasks.specs.Items.{item_place, item_text}
 use Rattle.text_tasks.specs.PipeEnds.{ends_token, in_last_pipe}
 use Rattle.text_tasks.specs.PipeWork.{IsPipeWork, PipeWork, pipeline_of}
@@ -32,6 +32,9 @@ use Rattle.pipe_laws.proofs.Through.{some_pipes}
 use Rattle.pipe_values.proofs.CellTexts.{EndsWith, cell_at, text_at}
 use Rattle.pipe_values.proofs.Places.{EndStands, end_among}
 use Rattle.pipe_values.proofs.TextTurns.{FoundAlong, StartOf, ends_so, found_along, same_token, start_of_end}
+
+same_number : (k : ℕ) → eqb k k ≡ true
+same_number k = grind (arith, nat_tests)
 
 -- a task of the net is the cell of a line and a pipe
 pub record CellOf (lines pipes t : ℕ) : Type 0 where
@@ -82,7 +85,7 @@ module _ (work : PipeWork) (is : IsPipeWork work) (limit : ℕ) (values : List (
       start : StartOf work is limit values h run l (suc p) k end
       start = start_of_end work is limit values h run l (suc p) k end at
 
-      along : FoundAlong work is limit values h run l p k _
+      along : FoundAlong work is limit values h run l p k (line_input (pipeline_of work) (cell l (suc p)) start.found)
       along = found_along work is limit values h run l p k start.found in_l in_p start.at
 
       n_is : place l k ≡ n
@@ -114,7 +117,7 @@ module _ (work : PipeWork) (is : IsPipeWork work) (limit : ℕ) (values : List (
   text_ended n token y has ends = by_task (ended_at h y) refl ends
     where
       by_value : (t : ℕ) → ended_at h y ≡ Some t → in_last_pipe pipes t ≡ true → (o : Option Item) → value_at values y ≡ o → option_map_or (λ item. item_place item == n) o false ≡ true → option_map_or item_text o [] ≡ text_at work n token pipes
-      by_value t is_t in_last None none no = absurd (false≢true no)
+      by_value t is_t in_last None none miss = absurd (false≢true miss)
       by_value t is_t in_last (Some v) is_v hit =
           ap item_text (sym among.1.1) ∙ ap item_text (end_text of.line last among.0 n token among.1.0 of.in_lines (omega (arith, last_is)) at (ap item_place among.1.1 ∙ place_is) has).value ∙ ap (text_at work n token) last_is
         where
@@ -134,11 +137,11 @@ module _ (work : PipeWork) (is : IsPipeWork work) (limit : ℕ) (values : List (
           at = subst (λ s. slice_get (ends_in values (start_at h) s h) among.0 ≡ Some among.1.0) (of.is ∙ ap (λ p. of.line * pipes + p) in_pipe) among.1.2
 
       by_last : (t : ℕ) → ended_at h y ≡ Some t → (b : Bool) → in_last_pipe pipes t ≡ b → cond b (option_map_or (λ item. item_place item == n) (value_at values y) false) false ≡ true → option_map_or item_text (value_at values y) [] ≡ text_at work n token pipes
-      by_last t is_t false other no = absurd (false≢true no)
+      by_last t is_t false other miss = absurd (false≢true miss)
       by_last t is_t true in_last hit = by_value t is_t in_last (value_at values y) refl hit
 
       by_task : (o : Option ℕ) → ended_at h y ≡ o → cond (option_map_or (in_last_pipe pipes) o false) (option_map_or (λ item. item_place item == n) (value_at values y) false) false ≡ true → option_map_or item_text (value_at values y) [] ≡ text_at work n token pipes
-      by_task None none no = absurd (false≢true no)
+      by_task None none miss = absurd (false≢true miss)
       by_task (Some t) is_t hit = by_last t is_t (in_last_pipe pipes t) refl hit
 
   -- and an end of the last pipe that has its place stands there
@@ -149,14 +152,14 @@ module _ (work : PipeWork) (is : IsPipeWork work) (limit : ℕ) (values : List (
       ∙ ap (λ o. option_map_or (λ item. item_place item == n) o false) stands.has
       ∙ hit
     where
-      mod : cell l last % pipes ≡ last
-      mod = mod-mul-add l pipes last (omega (arith, last_is))
+      its_pipe : cell l last % pipes ≡ last
+      its_pipe = mod-mul-add l pipes last (omega (arith, last_is))
 
       in_last : in_last_pipe pipes (cell l last) ≡ true
-      in_last = grind (arith, nat_tests)
+      in_last = ap (λ q. q == last) its_pipe ∙ same_number last
 
       place_is : item_place end.value ≡ n
       place_is = ap item_place with.value
 
       hit : (item_place end.value == n) ≡ true
-      hit = grind (arith, nat_tests)
+      hit = ap (λ m. m == n) place_is ∙ same_number n

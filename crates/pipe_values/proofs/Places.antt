@@ -133,8 +133,8 @@ module _ {V : Type 0} (values : List (ValueRow V)) (h : List Entry) (t : ℕ) wh
           }
             where
               by_start : (o : Option ℕ) → is_task t o ≡ true → o ≡ Some t
-              by_start None no = absurd (false≢true no)
-              by_start (Some s) yes = let hit : eqb s t ≡ true = yes in let same : s ≡ t = grind (arith, nat_tests) in ap Some same
+              by_start None none = absurd (false≢true none)
+              by_start (Some s) hit = let same : s ≡ t = grind (arith, nat_tests) in ap Some same
 
           by_value : (o : Option V) → value_at values (0 + found.place) ≡ o
               → slice_get (elim o as (λ _. List (TaskEnd V)) [ None ↦ [] | Some w ↦ cond (is_task t (start_at h start)) ((record { value = w; gives = gives }) ∷ []) [] ]) found.among ≡ Some end → EndStands found.place end.value

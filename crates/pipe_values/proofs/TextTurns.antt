@@ -173,17 +173,17 @@ module _ (work : PipeWork) (is : IsPipeWork work) (limit : ℕ) (values : List (
     where
       start : StartOf l 0 k end
       start = start_of_end l 0 k end at_k
-  ends_so (suc p) in_p l k token end in_l at_k has =
-      moved (pipeline_net (pipeline_of work)) (cell l (suc p)) (cell_at work (place l k) token (suc p)) Each end (sym (later_is work is l (suc p) in_p start.found p refl (place l k) token is_cell) ∙ start.answered)
+  ends_so (suc p) in_p l k token end in_l at_k has = after_that (ends_so p (omega (arith, in_p)))
     where
       start : StartOf l (suc p) k end
       start = start_of_end l (suc p) k end at_k
 
-      along : FoundAlong l p k (line_input (pipeline_of work) (cell l (suc p)) start.found)
-      along = found_by p (ends_so p (omega (arith, in_p))) l k start.found in_l in_p start.at
-
-      is_cell : line_input (pipeline_of work) (cell l (suc p)) start.found ≡ value (Cell (cell_at work (place l k) token p))
-      is_cell = along.is_cell ∙ ap (λ t. value (Cell (cell_at work (place l k) t p))) (same_token along.token token (sym along.has ∙ has))
+      after_that : EndsSo p → EndsWith (cell_at work (place l k) token (suc p)) end
+      after_that so =
+          let along = found_by p so l k start.found in_l in_p start.at in
+          let is_cell : line_input (pipeline_of work) (cell l (suc p)) start.found ≡ value (Cell (cell_at work (place l k) token p)) =
+          along.is_cell ∙ ap (λ t. value (Cell (cell_at work (place l k) t p))) (same_token along.token token (sym along.has ∙ has)) in
+          moved (pipeline_net (pipeline_of work)) (cell l (suc p)) (cell_at work (place l k) token (suc p)) Each end (sym (later_is work is l (suc p) in_p start.found p refl (place l k) token is_cell) ∙ start.answered)
 
   pub found_along : (l p k : ℕ) (found : List (InputValue Item)) → l < lines → suc p < pipes → slice_get (cell_starts l (suc p)) k ≡ Some found → FoundAlong l p k (line_input (pipeline_of work) (cell l (suc p)) found)
   found_along l p k found in_l in_p at_k = found_by p (ends_so p (omega (arith, in_p))) l k found in_l in_p at_k

@@ -31,7 +31,7 @@ use Rattle.pipe_lines.specs.declared.order.Passed.TheVariants.{Token, Stop}
 use Rattle.pipe_lines.specs.Orders.{end_of, passed_at, passed_or}
 use Rattle.pipe_lines.specs.PipeNet.{cell_row}
 use Rattle.text_tasks.specs.declared.item.Item.{Item}
-use Rattle.text_tasks.specs.Cells.{cell_task, pipeline_net}
+use Rattle.text_tasks.specs.Cells.{cell_task, line_input, pipeline_net}
 use Rattle.text_tasks.specs.PipeWork.{IsPipeWork, PipeWork, pipeline_of}
 use Rattle.run_laws.specs.Graphs.{Returns}
 use Rattle.run_laws.specs.Rings.{IsRinged}
@@ -164,7 +164,7 @@ module _ (work : PipeWork) (is : IsPipeWork work) (limit : ℕ) (values : List (
         moves net (cell l (suc p)) (cell_at work (place l k) along.token (suc p)) Each (short_at (place l k) along.token (suc p) (passed_is (place l k) along.token along.has) in_p)
         (sym (later_is work is l (suc p) in_p found p refl (place l k) along.token along.is_cell) ∙ none)
       where
-        along : FoundAlong work is limit values h run l p k _
+        along : FoundAlong work is limit values h run l p k (line_input (pipeline_of work) (cell l (suc p)) found)
         along = found_along work is limit values h run l p k found in_l in_p at_k
 
     -- a front of the journal

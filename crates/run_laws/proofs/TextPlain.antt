@@ -241,10 +241,10 @@ text_inner d job t found inner is answers =
 
 -- ---- gathering
 
-gather_value : (text : List ℕ) (item : Item) → item ≡ Text text → length text ≤ value_limit → as_value text ≡ Some item
+pub gather_value : (text : List ℕ) (item : Item) → item ≡ Text text → length text ≤ value_limit → as_value text ≡ Some item
 gather_value text item is short = ap (λ b. cond b (Some (Text text)) None) (short_test text short) ∙ ap Some (sym is)
 
-gather_long : (text : List ℕ) (why : Why) → FaultsLong text why → as_value text ≡ None
+pub gather_long : (text : List ℕ) (why : Why) → FaultsLong text why → as_value text ≡ None
 gather_long text (Long n) is = ap (λ b. cond b (Some (Text text)) None) (long_test text n is.0 is.1)
 gather_long text (Wide n) is = absurd is
 gather_long text (Unmet k) is = absurd is
