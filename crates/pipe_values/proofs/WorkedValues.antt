@@ -85,12 +85,12 @@ of_no_token = refl
 
 -- the first one has the place, the next the one behind it
 from_place_3 : texts_behind in_order 3 (1 ∷ 0 ∷ []) ≡ Some (codes "3 1 b\n4 0 a\n")
-unfolding in_order, digits
+unfolding in_order digits
 from_place_3 = refl
 
 -- a token without a part has the empty text
 without_a_part : texts_behind in_order 0 (5 ∷ 0 ∷ []) ≡ Some (codes "1 0 a\n")
-unfolding in_order, digits
+unfolding in_order digits
 without_a_part = refl
 
 -- nothing comes of all where nothing comes of one
@@ -117,11 +117,11 @@ module _ (work : PipeWork) (a b : List ℕ) (is_a : work.parts ≡ a ∷ b ∷ [
 -- ---- pipelines
 
 value_in_order : pipe_value in_order ≡ Some (Text (codes "0 0 a\n1 1 b\n"))
-unfolding in_order, digits
+unfolding in_order digits
 value_in_order = refl
 
 value_exchanged : pipe_value exchanged ≡ Some (Text (codes "0 1 b\n1 0 a\n"))
-unfolding exchanged, digits
+unfolding exchanged digits
 value_exchanged = refl
 
 -- a token never passes, though another does
