@@ -184,7 +184,20 @@ module _ {V : Type 0} (pipeline : Pipeline V) (one : OneAnswer V) (cells : AreCe
           at_start : slice_get (starts_in values (task l p) b) k ≡ Some found
           at_start = slice_get-get_or (starts_in values (task l p) b) k [] (omega (arith, slice_get_within _ k end at_k, ran.ended, ran.begun, ends_few at (task l p) b (phases (task l p))))
 
-  -- the k-th end that signalled an edge is the k-th end, and its place has a token
+  -- the k-th end that signalled an edge is the k-th end
+  pub end_signalled : (b : List Entry) (l p k e : ℕ) (edge : PipeEdge) (end : TaskEnd V) → AllEnds pipeline values at b → l < lines → p < length serials → slice_get (pipe_edges lines serials) e ≡ Some edge → edge.row.from ≡ task l p
+      → slice_get (filter (signals e) (ends_in values at (task l p) b)) k ≡ Some end → (slice_get (ends_in values at (task l p) b) k ≡ Some end) × HasToken (passes l k)
+  end_signalled b l p k e edge end all in_l in_p at_e from at_k =
+      let kept : (slice_get (ends_in values at (task l p) b) k ≡ Some end) × (signals e end ≡ true) = filter_front (signals e) (ends_in values at (task l p) b) front k end at_k in
+      (kept.0, token_of k end (all.ends l p k end in_l in_p kept.0) kept.1)
+    where
+      token_of : (j : ℕ) (x : TaskEnd V) → EndAtTurn pipeline l p j x → signals e x ≡ true → HasToken (passes l j)
+      token_of j x turn gift = signals_token (passes l j) (out_edges net (task l p)) e (sym (ap (list_any (λ g. g == e)) turn.gives) ∙ gift)
+
+      front : (i j : ℕ) (x y : TaskEnd V) → i < j → slice_get (ends_in values at (task l p) b) i ≡ Some x → slice_get (ends_in values at (task l p) b) j ≡ Some y → signals e y ≡ true → signals e x ≡ true
+      front i j x y less at_i at_j gift = end_signals pipeline l p i j e edge x (all.ends l p i x in_l in_p at_i) (omega (arith, less)) (token_of j y (all.ends l p j y in_l in_p at_j) gift) at_e from
+
+  -- and its place has a token
   pub record SignalsAtTurn (l p k : ℕ) (end : TaskEnd V) : Type 0 where
     pub has : HasToken (passes l k)
     pub turn : EndAtTurn pipeline l p k end
@@ -192,15 +205,8 @@ module _ {V : Type 0} (pipeline : Pipeline V) (one : OneAnswer V) (cells : AreCe
   pub signals_at_turn : (b : List Entry) (l p k e : ℕ) (edge : PipeEdge) (end : TaskEnd V) → AllEnds pipeline values at b → l < lines → p < length serials → slice_get (pipe_edges lines serials) e ≡ Some edge → edge.row.from ≡ task l p
       → slice_get (filter (signals e) (ends_in values at (task l p) b)) k ≡ Some end → SignalsAtTurn l p k end
   signals_at_turn b l p k e edge end all in_l in_p at_e from at_k =
-      let kept : (slice_get (ends_in values at (task l p) b) k ≡ Some end) × (signals e end ≡ true) = filter_front (signals e) (ends_in values at (task l p) b) front k end at_k in
-      let turn : EndAtTurn pipeline l p k end = all.ends l p k end in_l in_p kept.0 in
-      record { has = token_of k end turn kept.1; turn = turn }
-    where
-      token_of : (j : ℕ) (x : TaskEnd V) → EndAtTurn pipeline l p j x → signals e x ≡ true → HasToken (passes l j)
-      token_of j x turn gift = signals_token (passes l j) (out_edges net (task l p)) e (sym (ap (list_any (λ g. g == e)) turn.gives) ∙ gift)
-
-      front : (i j : ℕ) (x y : TaskEnd V) → i < j → slice_get (ends_in values at (task l p) b) i ≡ Some x → slice_get (ends_in values at (task l p) b) j ≡ Some y → signals e y ≡ true → signals e x ≡ true
-      front i j x y less at_i at_j gift = end_signals pipeline l p i j e edge x (all.ends l p i x in_l in_p at_i) (omega (arith, less)) (token_of j y (all.ends l p j y in_l in_p at_j) gift) at_e from
+      let there = end_signalled b l p k e edge end all in_l in_p at_e from at_k in
+      record { has = there.1; turn = all.ends l p k end in_l in_p there.0 }
 
   -- ---- one start more
 

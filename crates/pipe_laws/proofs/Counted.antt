@@ -36,21 +36,25 @@ use Rattle.pipe_laws.proofs.Ordered.{cycle}
 
 -- ---- sums
 
-abbrev one_if : Bool → ℕ
+abbrev pub one_if : Bool → ℕ
 one_if b = cond b 1 0
 
 -- the sum of f over the numbers below n
-abbrev total : ℕ → (ℕ → ℕ) → ℕ
+abbrev pub total : ℕ → (ℕ → ℕ) → ℕ
 total zero f = 0
 total (suc n) f = total n f + f n
 
-total-same : (n : ℕ) (f g : ℕ → ℕ) → ((i : ℕ) → i < n → f i ≡ g i) → total n f ≡ total n g
+pub total-same : (n : ℕ) (f g : ℕ → ℕ) → ((i : ℕ) → i < n → f i ≡ g i) → total n f ≡ total n g
 total-same zero f g same = refl
 total-same (suc n) f g same = omega (arith, total-same n f g (λ i below. same i (omega (arith, below))), same n (omega arith))
 
-total-add : (n : ℕ) (f g : ℕ → ℕ) → total n (λ i. f i + g i) ≡ total n f + total n g
+pub total-add : (n : ℕ) (f g : ℕ → ℕ) → total n (λ i. f i + g i) ≡ total n f + total n g
 total-add zero f g = refl
 total-add (suc n) f g = omega (arith, total-add n f g)
+
+pub total-less : (n : ℕ) (f g : ℕ → ℕ) → ((i : ℕ) → i < n → f i ≤ g i) → total n f ≤ total n g
+total-less zero f g less = omega arith
+total-less (suc n) f g less = omega (arith, total-less n f g (λ i below. less i (omega (arith, below))), less n (omega arith))
 
 total-times : (n c : ℕ) (f : ℕ → ℕ) → total n (λ i. c * f i) ≡ c * total n f
 total-times zero c f = omega arith
@@ -63,7 +67,7 @@ total-none : (n k : ℕ) → n ≤ k → total n (λ i. one_if (k == i)) ≡ 0
 total-none zero k past = refl
 total-none (suc n) k past = let other : k ≢ n = omega (arith, past) in let miss : eqb k n ≡ false = grind (arith, nat_tests) in omega (arith, total-none n k (omega (arith, past)), ap {B = ℕ} (λ b. one_if b) miss)
 
-total-one : (n k : ℕ) → k < n → total n (λ i. one_if (k == i)) ≡ 1
+pub total-one : (n k : ℕ) → k < n → total n (λ i. one_if (k == i)) ≡ 1
 total-one zero k below = absurd (omega (arith, below))
 total-one (suc n) k below = by_place (cases_eq k n) (λ early. total-one n k early)
   where
@@ -76,11 +80,11 @@ total-append m zero f = let none : m + 0 ≡ m = omega arith in ap (λ k. total 
 total-append m (suc n) f = let more : m + suc n ≡ suc (m + n) = omega arith in ap (λ k. total k f) more ∙ omega (arith, total-append m n f)
 
 -- row by row
-total-rows : (a b : ℕ) (f : ℕ → ℕ) → total (a * b) f ≡ total a (λ l. total b (λ p. f (l * b + p)))
+pub total-rows : (a b : ℕ) (f : ℕ → ℕ) → total (a * b) f ≡ total a (λ l. total b (λ p. f (l * b + p)))
 total-rows zero b f = let none : 0 * b ≡ 0 = omega arith in ap (λ k. total k f) none
 total-rows (suc a) b f = let more : suc a * b ≡ a * b + b = omega arith in ap (λ k. total k f) more ∙ omega (arith, total-append (a * b) b f, total-rows a b f)
 
-total-const : (n c : ℕ) → total n (λ i. c) ≡ n * c
+pub total-const : (n c : ℕ) → total n (λ i. c) ≡ n * c
 total-const zero c = omega arith
 total-const (suc n) c = omega (arith, total-const n c)
 
@@ -92,7 +96,7 @@ total-first (suc n) f = omega (arith, total-first n f)
 
 module _ (lines : ℕ) (some : 1 ≤ lines) where
   -- how many of the places below n are those of line l
-  abbrev turns : ℕ → ℕ → ℕ
+  abbrev pub turns : ℕ → ℕ → ℕ
   turns l zero = 0
   turns l (suc n) = turns l n + one_if (n % lines == l)
 
@@ -227,29 +231,32 @@ module _ {V : Type 0} (pipeline : Pipeline V) (one : OneAnswer V) (limit : ℕ) 
           let turn : SignalsAtTurn pipeline one is.cells is.first_serial values (start_at h) l p j end = signals_at_turn pipeline one is.cells is.first_serial values (start_at h) h l p j e edge end (all_ends pipeline one limit values h is) in_l in_p at from there in
           token_within pipeline.order (place_at pipeline l j) turn.has.token turn.has.is
 
-  -- a cell started no more often than its in-edges were given
-  starts_given : (l p e : ℕ) → e < length net.edges → target_of net e ≡ task l p → begun_at l p ≤ given net e h
-  starts_given l p e below into =
+  -- a cell was used no more often than its in-edges were given
+  uses_given : (l p e : ℕ) → e < length net.edges → target_of net e ≡ task l p → used (task l p) h ≤ given net e h
+  uses_given l p e below into = subst (λ t. used t h ≤ given net e h) into ((turning_along net limit h (pipes_ringed lines pipeline.serials) is.given.shape).1.held e below)
+
+  -- and it started no more often
+  starts_used : (l p : ℕ) → begun_at l p ≤ used (task l p) h
+  starts_used l p =
       omega (
         arith,
         ((kept pipeline one limit values h is).ran (task l p)).begun,
         (rounds_along net limit lines (λ r. task r 0) (in_pipe pipeline 0) h (pipes_ringed lines pipeline.serials) (cycle pipeline one limit values h is 0 is.first_serial) is.given.shape).1.passing.begun (task l p),
-        subst (λ t. used t h ≤ given net e h) into ((turning_along net limit h (pipes_ringed lines pipeline.serials) is.given.shape).1.held e below),
       )
 
   -- what an in-edge of a cell comes to
   from_edge : (serial : Bool) (of l p n i : ℕ) (tasks : ℕ → ℕ) (into : InEdge lines pipeline.serials serial of (task l p)) (from : ComesFrom lines pipeline.serials n tasks i into.has.place) (line pipe : ℕ) → from.edge.row.from ≡ task line pipe
-      → begun_at l p ≤ length (begun {V = V} net into.has.place) + signalled_at into.has.place line pipe
+      → used (task l p) h ≤ length (begun {V = V} net into.has.place) + signalled_at into.has.place line pipe
   from_edge serial of l p n i tasks into from line pipe is_from =
       omega (
         arith,
-        starts_given l p into.has.place (in_edge_below lines pipeline.serials into.edge into.has) (target_is lines pipeline.serials into.has.place into.edge into.has.at ∙ into.to),
+        uses_given l p into.has.place (in_edge_below lines pipeline.serials into.edge into.has) (target_is lines pipeline.serials into.has.place into.edge into.has.at ∙ into.to),
         given_is pipeline one limit values h is into.has.place line pipe from.edge from.at is_from,
       )
 
-  -- A cell of a later pipe starts at places with tokens alone, one of the first pipe also at the next.
-  starts_short : (l p k : ℕ) → l < lines → p < pipes → k < begun_at l p → place_at pipeline l k < length pipeline.order.passed + end_place p
-  starts_short l zero k in_l in_p less = by_round from.round
+  -- A cell of a later pipe is used at places with tokens alone, one of the first pipe also at the next.
+  pub uses_short : (l p k : ℕ) → l < lines → p < pipes → k < used (task l p) h → place_at pipeline l k < length pipeline.order.passed + end_place p
+  uses_short l zero k in_l in_p less = by_round from.round
     where
       into : InEdge lines pipeline.serials true 0 (task l 0)
       into = pipe_in_edge lines pipeline.serials l 0 in_l is.first_serial
@@ -260,7 +267,7 @@ module _ {V : Type 0} (pipeline : Pipeline V) (one : OneAnswer V) (limit : ℕ) 
       from : ComesFrom lines pipeline.serials lines (λ r. task r 0) l into.has.place
       from = along_pipe_into lines pipeline.serials l 0 into.has.place in_p (record { edge = into.edge; at = into.has.at; to = into.to }) (tag_is lines pipeline.serials into.has.place into.edge into.has.at ∙ into.is_serial)
 
-      few : begun_at l 0 ≤ length (begun {V = V} net into.has.place) + signalled_at into.has.place from.before 0
+      few : used (task l 0) h ≤ length (begun {V = V} net into.has.place) + signalled_at into.has.place from.before 0
       few = from_edge true 0 l 0 lines l (λ r. task r 0) into from from.before 0 from.from
 
       by_round : GoesOn lines from.before l from.edge.row.start → place_at pipeline l k < length pipeline.order.passed + 1
@@ -285,7 +292,7 @@ module _ {V : Type 0} (pipeline : Pipeline V) (one : OneAnswer V) (limit : ℕ) 
             where
               more : suc j * lines ≡ j * lines + lines
               more = omega arith
-  starts_short l (suc p) k in_l in_p less = by_round from.round
+  uses_short l (suc p) k in_l in_p less = by_round from.round
     where
       into : InEdge lines pipeline.serials false l (task l (suc p))
       into = line_in_edge lines pipeline.serials l (suc p) in_l in_p
@@ -293,7 +300,7 @@ module _ {V : Type 0} (pipeline : Pipeline V) (one : OneAnswer V) (limit : ℕ) 
       from : ComesFrom lines pipeline.serials pipes (task l) (suc p) into.has.place
       from = along_line_into lines pipeline.serials l (suc p) into.has.place in_p (record { edge = into.edge; at = into.has.at; to = into.to }) (tag_is lines pipeline.serials into.has.place into.edge into.has.at ∙ into.is_serial)
 
-      few : begun_at l (suc p) ≤ length (begun {V = V} net into.has.place) + signalled_at into.has.place l from.before
+      few : used (task l (suc p)) h ≤ length (begun {V = V} net into.has.place) + signalled_at into.has.place l from.before
       few = from_edge false l l (suc p) pipes (suc p) (task l) into from l from.before from.from
 
       by_round : GoesOn pipes from.before (suc p) from.edge.row.start → place_at pipeline l k < length pipeline.order.passed + 0
@@ -301,69 +308,84 @@ module _ {V : Type 0} (pipeline : Pipeline V) (one : OneAnswer V) (limit : ℕ) 
       by_round (goes_up starts p_is) =
           omega (arith, signalled_short into.has.place l from.before k from.edge in_l from.below from.at from.from (omega (arith, less, few, first_counts pipeline one limit values h is into.has.place from.edge false from.at starts)))
 
+  -- ---- the places of all cells
+
+  -- how many of the first n places are those of a line
+  abbrev pub turns_of : ℕ → ℕ → ℕ
+  turns_of l n = turns lines is.some_lines l n
+
+  -- how often a cell may be used
+  abbrev pub places_of : ℕ → ℕ → ℕ
+  places_of l p = turns_of l (length pipeline.order.passed + end_place p)
+
+  pub uses_few : (l p : ℕ) → l < lines → p < pipes → used (task l p) h ≤ places_of l p
+  uses_few l p in_l in_p = by_less (cases_lt (places_of l p) (used (task l p) h))
+    where
+      at : Exact lines is.some_lines l (length pipeline.order.passed + end_place p)
+      at = exact lines is.some_lines l in_l (length pipeline.order.passed + end_place p)
+
+      by_less : (places_of l p < used (task l p) h) ⊎ (used (task l p) h ≤ places_of l p) → used (task l p) h ≤ places_of l p
+      by_less (inl less) = absurd (omega (arith, at.above (places_of l p) (uses_short l p (places_of l p) in_l in_p less)))
+      by_less (inr few) = few
+
+  -- those of a line
+  line_places : (l : ℕ) → total pipes (places_of l) ≡ turns_of l (length pipeline.order.passed + 1) + (pipes - 1) * turns_of l (length pipeline.order.passed)
+  line_places l = by_pipes pipes refl
+    where
+      by_pipes : (n : ℕ) → pipes ≡ n → total n (places_of l) ≡ turns_of l (length pipeline.order.passed + 1) + (n - 1) * turns_of l (length pipeline.order.passed)
+      by_pipes zero count = absurd (omega (arith, count, some_pipes pipeline is.first_serial))
+      by_pipes (suc n) count =
+          total-first n (places_of l)
+          ∙ omega (
+            arith,
+            total-const n (turns_of l (length pipeline.order.passed + 0)),
+            ap (λ m. n * turns_of l m) no_more,
+            ap (λ m. m * turns_of l (length pipeline.order.passed)) one_less,
+          )
+        where
+          one_less : suc n - 1 ≡ n
+          one_less = omega arith
+
+          no_more : length pipeline.order.passed + 0 ≡ length pipeline.order.passed
+          no_more = omega arith
+
+  -- One for each token at each pipe, and one at the end.
+  pub all_places : total lines (λ l. total pipes (places_of l)) ≡ length pipeline.order.passed * pipes + 1
+  all_places =
+      total-same lines (λ l. total pipes (places_of l)) (λ l. turns_of l (length pipeline.order.passed + 1) + (pipes - 1) * turns_of l (length pipeline.order.passed)) (λ l in_l. line_places l)
+      ∙ total-add lines (λ l. turns_of l (length pipeline.order.passed + 1)) (λ l. (pipes - 1) * turns_of l (length pipeline.order.passed))
+      ∙ omega (
+        arith,
+        turns-total lines is.some_lines (length pipeline.order.passed + 1),
+        total-times lines (pipes - 1) (λ l. turns_of l (length pipeline.order.passed)),
+        ap (λ n. (pipes - 1) * n) (turns-total lines is.some_lines (length pipeline.order.passed)),
+        all_but_one (length pipeline.order.passed) pipes (some_pipes pipeline is.first_serial),
+      )
+    where
+      all_but_one : (n m : ℕ) → 1 ≤ m → (m - 1) * n + n ≡ n * m
+      all_but_one n zero some = absurd (omega (arith, some))
+      all_but_one n (suc m) some = let less : suc m - 1 ≡ m = omega arith in ap (λ k. k * n + n) less ∙ omega arith
+
   -- ---- all of them
 
   module _ (complete : Complete (pipeline_net pipeline) limit h) (fine : IsFine h) where
-    abbrev turns_of : ℕ → ℕ → ℕ
-    turns_of l n = turns lines is.some_lines l n
-
-    started_is : (l p : ℕ) → l < lines → p < pipes → begun_at l p ≡ turns_of l (length pipeline.order.passed + end_place p)
-    started_is l p in_l in_p = by_less (cases_lt (begun_at l p) (turns_of l n)) (cases_lt (turns_of l n) (begun_at l p))
+    started_is : (l p : ℕ) → l < lines → p < pipes → begun_at l p ≡ places_of l p
+    started_is l p in_l in_p = by_less (cases_lt (begun_at l p) (places_of l p))
       where
-        n : ℕ
-        n = length pipeline.order.passed + end_place p
-
         at : Exact lines is.some_lines l (length pipeline.order.passed + end_place p)
         at = exact lines is.some_lines l in_l (length pipeline.order.passed + end_place p)
 
-        by_less : (begun_at l p < turns_of l (length pipeline.order.passed + end_place p)) ⊎ (turns_of l (length pipeline.order.passed + end_place p) ≤ begun_at l p)
-            → (turns_of l (length pipeline.order.passed + end_place p) < begun_at l p) ⊎ (begun_at l p ≤ turns_of l (length pipeline.order.passed + end_place p))
-            → begun_at l p ≡ turns_of l (length pipeline.order.passed + end_place p)
-        by_less (inl less) other = absurd (omega (arith, starts_at_place pipeline one limit values h is complete fine l p (begun_at l p) in_l in_p (at.below (begun_at l p) less)))
-        by_less (inr few) (inl less) = absurd (omega (arith, at.above (turns_of l (length pipeline.order.passed + end_place p)) (starts_short l p (turns_of l (length pipeline.order.passed + end_place p)) in_l in_p less)))
-        by_less (inr few) (inr many) = omega (arith, few, many)
-
-    -- the starts of a line
-    line_counted : (l : ℕ) → l < lines → total pipes (λ p. count_by (begins (task l p)) h) ≡ turns_of l (length pipeline.order.passed + 1) + (pipes - 1) * turns_of l (length pipeline.order.passed)
-    line_counted l in_l = by_pipes pipes refl
-      where
-        cell_counted : (p : ℕ) → p < pipes → count_by (begins (task l p)) h ≡ turns_of l (length pipeline.order.passed + end_place p)
-        cell_counted p in_p = sym ((kept pipeline one limit values h is).ran (task l p)).begun ∙ started_is l p in_l in_p
-
-        by_pipes : (n : ℕ) → pipes ≡ n → total n (λ p. count_by (begins (task l p)) h) ≡ turns_of l (length pipeline.order.passed + 1) + (n - 1) * turns_of l (length pipeline.order.passed)
-        by_pipes zero count = absurd (omega (arith, count, some_pipes pipeline is.first_serial))
-        by_pipes (suc n) count =
-            total-first n (λ p. count_by (begins (task l p)) h)
-            ∙ omega (
-              arith,
-              cell_counted 0 (omega (arith, count)),
-              total-same n (λ p. count_by (begins (task l (suc p))) h) (λ p. turns_of l (length pipeline.order.passed + 0)) (λ p below. cell_counted (suc p) (omega (arith, count, below))),
-              total-const n (turns_of l (length pipeline.order.passed + 0)),
-              ap (λ m. n * turns_of l m) no_more,
-              ap (λ m. m * turns_of l (length pipeline.order.passed)) one_less,
-            )
-          where
-            one_less : suc n - 1 ≡ n
-            one_less = omega arith
-
-            no_more : length pipeline.order.passed + 0 ≡ length pipeline.order.passed
-            no_more = omega arith
+        by_less : (begun_at l p < places_of l p) ⊎ (places_of l p ≤ begun_at l p) → begun_at l p ≡ places_of l p
+        by_less (inl less) = absurd (omega (arith, starts_at_place pipeline one limit values h is complete fine l p (begun_at l p) in_l in_p (at.below (begun_at l p) less)))
+        by_less (inr many) = omega (arith, many, starts_used l p, uses_few l p in_l in_p)
 
     pub all_counted : starts h ≡ length pipeline.order.passed * pipes + 1
     all_counted =
         counted net limit h is.given.shape
         ∙ ap (λ n. total n (λ t. count_by (begins t) h)) (length-replicate (lines * pipes) cell_row)
         ∙ total-rows lines pipes (λ t. count_by (begins t) h)
-        ∙ total-same lines (λ l. total pipes (λ p. count_by (begins (task l p)) h)) (λ l. turns_of l (length pipeline.order.passed + 1) + (pipes - 1) * turns_of l (length pipeline.order.passed)) line_counted
-        ∙ total-add lines (λ l. turns_of l (length pipeline.order.passed + 1)) (λ l. (pipes - 1) * turns_of l (length pipeline.order.passed))
-        ∙ omega (
-          arith,
-          turns-total lines is.some_lines (length pipeline.order.passed + 1),
-          total-times lines (pipes - 1) (λ l. turns_of l (length pipeline.order.passed)),
-          ap (λ n. (pipes - 1) * n) (turns-total lines is.some_lines (length pipeline.order.passed)),
-          all_but_one (length pipeline.order.passed) pipes (some_pipes pipeline is.first_serial),
-        )
+        ∙ total-same lines (λ l. total pipes (λ p. count_by (begins (task l p)) h)) (λ l. total pipes (places_of l)) line_counted
+        ∙ all_places
       where
-        all_but_one : (n m : ℕ) → 1 ≤ m → (m - 1) * n + n ≡ n * m
-        all_but_one n zero some = absurd (omega (arith, some))
-        all_but_one n (suc m) some = let less : suc m - 1 ≡ m = omega arith in ap (λ k. k * n + n) less ∙ omega arith
+        line_counted : (l : ℕ) → l < lines → total pipes (λ p. count_by (begins (task l p)) h) ≡ total pipes (places_of l)
+        line_counted l in_l = total-same pipes (λ p. count_by (begins (task l p)) h) (places_of l) (λ p in_p. sym ((kept pipeline one limit values h is).ran (task l p)).begun ∙ started_is l p in_l in_p)

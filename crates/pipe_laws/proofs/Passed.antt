@@ -77,13 +77,13 @@ token_of_order order n k has = by_place (slice_get order.passed n) refl has
         by_head (inr never) = absurd (false≢true never)
 
 -- each number is a place of a line
-record TurnOf (lines n : ℕ) : Type 0 where
-  line : ℕ
-  round : ℕ
-  below : line < lines
-  is : round * lines + line ≡ n
+pub record TurnOf (lines n : ℕ) : Type 0 where
+  pub line : ℕ
+  pub round : ℕ
+  pub below : line < lines
+  pub is : round * lines + line ≡ n
 
-turn_of : (lines n : ℕ) → 1 ≤ lines → TurnOf lines n
+pub turn_of : (lines n : ℕ) → 1 ≤ lines → TurnOf lines n
 turn_of lines n some = record { line = n % lines; round = n / lines; below = mod-lt n some; is = omega (arith, mod-add-div' n lines) }
 
 module _ {V : Type 0} (pipeline : Pipeline V) (values : List (ValueRow V)) (p : ℕ) where

@@ -1,5 +1,5 @@
 -- The cells of a pipeline of texts answer as cells do.
-use Rattle.std.proofs.Common.{◌≡◌, ℕ, zero, suc, ◌+◌, ◌*◌, ◌%◌, ◌<◌, ◌≤◌, ◌==◌, Bool, true, false, cond, List, [], length, Option, Some, None, sym, refl, ap, ◌∙◌, subst, arith}
+use Rattle.std.proofs.Common.{◌≡◌, ℕ, zero, suc, ◌+◌, ◌*◌, ◌%◌, ◌<◌, ◌≤◌, ◌==◌, Bool, true, false, cond, List, [], length, Option, Some, None, sym, refl, ap, ◌∙◌, arith}
 use Rattle.std.specs.Prelude.{nat_le, slice_get, slice_index_or}
 use Rattle.std.specs.Option.{option_and_then, option_map}
 use Rattle.std.proofs.lemmas.Bool.Decides.{nat_tests}
@@ -121,9 +121,6 @@ module _ (work : PipeWork) (is : IsPipeWork work) (l p : ℕ) (low : p < length 
   abbrev Answers : OpMeaning → TaskEnd Item → Type 0
   Answers meaning end = option_and_then (end_by net t) (done_by meaning) ≡ Some end
 
-  answers : (end : TaskEnd Item) → cell_answer work t found ≡ Some end → Answers (cell_meaning work t found op) end
-  answers end given = ap (λ o. option_and_then (end_by net t) (option_and_then done_by o)) (sym its_meaning) ∙ given
-
   abbrev entering : Passed → OpMeaning
   entering passed = enters work op place passed
 
@@ -137,6 +134,16 @@ module _ (work : PipeWork) (is : IsPipeWork work) (l p : ℕ) (low : p < length 
   further q more =
       let no : (suc q == 0) ≡ false = grind (arith, nat_tests) in
       ap (λ r. cond {A = OpMeaning} (r == 0) (entering (passed_at work.order place)) going) more ∙ ap (λ b. cond {A = OpMeaning} b (entering (passed_at work.order place)) going) no
+
+  -- so what a cell answers is what is done by that
+  answer_by : (meaning : OpMeaning) → cell_meaning work t found op ≡ meaning → cell_answer work t found ≡ option_and_then (end_by net t) (done_by meaning)
+  answer_by meaning same = ap (λ o. option_and_then (end_by net t) (option_and_then done_by o)) (its_meaning ∙ ap Some same)
+
+  pub first_answer : p ≡ 0 → cell_answer work t found ≡ option_and_then (end_by net t) (done_by (entering (passed_at work.order place)))
+  first_answer first = answer_by (entering (passed_at work.order place)) (at_first (its_pipe ∙ first))
+
+  pub later_answer : (q : ℕ) → p ≡ suc q → cell_answer work t found ≡ option_and_then (end_by net t) (done_by going)
+  later_answer q more = answer_by going (further q (its_pipe ∙ more))
 
   -- a cell that enters has its place, and gives what goes with what passes
   pub record Entered (passed : Passed) (end : TaskEnd Item) : Type 0 where
@@ -164,18 +171,17 @@ module _ (work : PipeWork) (is : IsPipeWork work) (l p : ℕ) (low : p < length 
   entered (Unmet k) end given = absurd (none-some _ given)
 
   pub first_cell : p ≡ 0 → (end : TaskEnd Item) → cell_answer work t found ≡ Some end → Entered (passed_at work.order place) end
-  first_cell first end given = entered (passed_at work.order place) end (subst (λ m. Answers m end) (at_first (its_pipe ∙ first)) (answers end given))
+  first_cell first end given = entered (passed_at work.order place) end (sym (first_answer first) ∙ given)
 
   pub later_cell : (q : ℕ) → p ≡ suc q → (end : TaskEnd Item) → cell_answer work t found ≡ Some end → (item_token end.value ≡ token_in (pipeline_of work) along) × (end.gives ≡ out_edges net t)
   later_cell q more end given =
       let token : ℕ = token_in (pipeline_of work) along in
       let cell : CellItem = record { text = line_op_value op token (place_in along) (found_text along); token = token; place = place_in along } in
-      let of : Ends cell (out_edges net t) end = moves_end net t cell Each end (subst (λ m. Answers m end) (further q (its_pipe ∙ more)) (answers end given)) in
+      let of : Ends cell (out_edges net t) end = moves_end net t cell Each end (sym (later_answer q more) ∙ given) in
       (ap item_token of.value, of.gives_them)
 
   pub unmet_cell : p ≡ 0 → (k : ℕ) → passed_at work.order place ≡ Unmet k → cell_answer work t found ≡ None
-  unmet_cell first k never =
-      ap (λ o. option_and_then (end_by net t) (option_and_then done_by o)) (its_meaning ∙ ap Some (at_first (its_pipe ∙ first) ∙ ap entering never))
+  unmet_cell first k never = first_answer first ∙ ap (λ passed. option_and_then (end_by net t) (done_by (entering passed))) never
 
 -- The tasks of a pipeline's job answer as cells do.
 pub are_cells : (work : PipeWork) → IsPipeWork work → AreCells (pipeline_of work) (cell_answer work)

@@ -65,7 +65,7 @@ use Rattle.run_laws.proofs.LastEnds.{flat_map_below}
 use Rattle.run_laws.proofs.TextAnswers.{fault_at_task, gather_long, gather_value, inner_at_task, item_meets, module_runs, parts_none, spread_runs, value_at_task}
 use Rattle.pipe_laws.proofs.TextCells.{cell_runs}
 use Rattle.pipe_laws.proofs.TextInside.{le_of, passes_few, pipe_of_plan, pipe_runs}
-use Rattle.pipe_values.proofs.Values.{pipes_come_to}
+use Rattle.pipe_values.proofs.Values.{comes_to_value}
 
 -- ---- nets without conditions
 
@@ -230,7 +230,7 @@ text_returns d job is s t = let of = sound_graph d job is in subst (λ net. take
 known_by_itself : (d : ℕ) (run : FrameRun TextJob Item) (result : Option Item) (job : TextJob) → job_of run ≡ job → IsPlainTo d job → known_value job ≡ Some result → IsKept text_job run → LeadsTo text_job run result
 known_by_itself d run result (Graph work) same is known kept = absurd (none-some _ known)
 known_by_itself d run result (Parts work) same is known kept = absurd (none-some _ known)
-known_by_itself d run result (Pipe work) same is known kept = subst (LeadsTo text_job run) (same_Some _ _ known) (pipes_come_to run work same is.0 is.1 kept)
+known_by_itself d run result (Pipe work) same is known kept = subst (LeadsTo text_job run) (same_Some _ _ known) (comes_to_value run work same is.0 is.1 kept)
 
 -- text jobs without conditions are plain
 pub text_plainly : IsPlainly text_job text_plain

@@ -74,7 +74,7 @@ module _ {J V : Type 0} (meaning : Meaning J V) where
       }
 
   -- a Fault of a legal run is one of the one answer, but for one of a unit
-  one_fault : (run : FrameRun J V) (one : OneAnswer V) → AllowsOne meaning (job_of run) one → Legal meaning run → (b : List Entry) (x : Entry)
+  pub one_fault : (run : FrameRun J V) (one : OneAnswer V) → AllowsOne meaning (job_of run) one → Legal meaning run → (b : List Entry) (x : Entry)
       → WorkRule meaning (job_of run) (out-FrameRun J V run).values (inner_at run) b x → NestedRule meaning (job_of run) (out-FrameRun J V run).values (inner_at run) b x
       → IsOneFault one (out-FrameRun J V run).values b x
   one_fault run one allows legal b (Start task cause ins) work nested = tt

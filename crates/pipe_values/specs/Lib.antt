@@ -1,0 +1,2 @@
+pub mod PipeValue
+pub mod Laws
