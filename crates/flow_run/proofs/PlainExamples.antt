@@ -2,15 +2,17 @@
 use Rattle.std.proofs.Common.{◌≡◌, ◌⊎◌, ℕ, List, [], ◌∷◌, length, get_or, Option, Some, None, true, false, inl, inr, refl, arith, ap, sym}
 use Rattle.std.specs.Prelude.{codes}
 use Rattle.std.proofs.lemmas.Bool.{false≢true}
+use Rattle.std.proofs.lemmas.List.Elements.{All-nil, All-cons, All-head}
 use Rattle.task_graph.specs.declared.net.Shape.TheVariants.{Plain}
 use Rattle.task_graph.specs.declared.net.TaskRow.{TaskRow}
 use Rattle.call_status.specs.declared.status.Status.TheVariants.{Done, Limit, NoMemory, WriteFault}
-use Rattle.command_line.specs.Requests.{Asked, once, run, check}
-use Rattle.run_laws.specs.PlainReport.{IsPlainJob}
+use Rattle.command_line.specs.Requests.{Asked, AskedRounds, once, run, profile, check}
+use Rattle.run_laws.specs.PlainReport.{IsPlainJob, RunsWell}
 use Rattle.run_laws.specs.SmallPlans.{chooses_a_branch, kept_together, worked_job}
 use Rattle.text_tasks.specs.declared.job.TextJob.{TextJob}
 use Rattle.flow_run.specs.Requests.{SourceTexts}
-use Rattle.flow_run.specs.Plainly.{AsksPlainly, EndsPlainly}
+use Rattle.flow_run.specs.Plainly.{AsksPlainly, AsksRounds, EndsPlainly}
+use Rattle.flow_run.specs.PlainRounds.{RoundsRunWell}
 
 abbrev g : List ℕ
 g = 0 ∷ []
@@ -29,37 +31,54 @@ abbrev known_at : ℕ → Option (List ℕ) → ℕ
 known_at n None = 0
 known_at n (Some bytes) = get_or bytes n 0
 
-done_with_its_report : EndsPlainly (at_a_time 4) (Some (7 ∷ [])) (Some (7 ∷ report)) (Unit {0}) Done
-done_with_its_report = record { well = λ _. refl; report = λ _. refl; done = λ _ _. inl refl }
+abbrev asked : Option Asked
+asked = Some (run g 4 1 once false)
 
-done_over_the_limit : (before after : Option (List ℕ)) → ¬ EndsPlainly (at_a_time 3) before after (Unit {0}) Done
-done_over_the_limit before after ends = false≢true (ends.well refl)
+runs_well : RoundsRunWell once (at_a_time 4)
+runs_well = All-cons RunsWell (at_a_time 4) [] refl (All-nil RunsWell)
 
-two_values_exchanged : ¬ EndsPlainly (at_a_time 4) (Some []) (Some (codes "== k\nb\n== h\na1\na2\n")) (Unit {0}) Done
-two_values_exchanged ends = absurd (omega (arith, ap (known_at 5) (ends.report refl)))
+done_with_its_report : EndsPlainly asked once (at_a_time 4) (Some (7 ∷ [])) (Some (7 ∷ report)) (Unit {0}) Done
+done_with_its_report = record { well = λ _. runs_well; reports = λ _. refl; done = λ _ _. inl refl }
 
-only_the_first_predecessor : ¬ EndsPlainly (at_a_time 4) (Some []) (Some (codes "== k\na1\n== h\nb\n")) (Unit {0}) Done
-only_the_first_predecessor ends = absurd (omega (arith, ap known_length (ends.report refl)))
+done_over_the_limit : (before after : Option (List ℕ)) → ¬ EndsPlainly asked once (at_a_time 3) before after (Unit {0}) Done
+done_over_the_limit before after ends = false≢true (All-head RunsWell (at_a_time 3) [] (ends.well refl))
 
-not_done_within_the_limit : (before after : Option (List ℕ)) → ¬ EndsPlainly (at_a_time 4) before after (Unit {0}) (Limit [] 4)
-not_done_within_the_limit before after ends = by (ends.done refl tt)
+two_values_exchanged : ¬ EndsPlainly asked once (at_a_time 4) (Some []) (Some (codes "== k\nb\n== h\na1\na2\n")) (Unit {0}) Done
+two_values_exchanged ends = absurd (omega (arith, ap (known_at 5) (ends.reports refl)))
+
+only_the_first_predecessor : ¬ EndsPlainly asked once (at_a_time 4) (Some []) (Some (codes "== k\na1\n== h\nb\n")) (Unit {0}) Done
+only_the_first_predecessor ends = absurd (omega (arith, ap known_length (ends.reports refl)))
+
+not_done_within_the_limit : (before after : Option (List ℕ)) → ¬ EndsPlainly asked once (at_a_time 4) before after (Unit {0}) (Limit [] 4)
+not_done_within_the_limit before after ends = by (ends.done runs_well tt)
   where
     by : (Limit [] 4 ≡ Done) ⊎ (Limit [] 4 ≡ NoMemory) → ⊥
     by (inl same) = cc
     by (inr same) = cc
 
-a_write_failed : (before after : Option (List ℕ)) → EndsPlainly (at_a_time 4) before after ⊥ WriteFault
-a_write_failed before after = record { well = λ (same : WriteFault ≡ Done). absurd (cc); report = λ (same : WriteFault ≡ Done). absurd (cc); done = λ _ failed. absurd failed }
+a_write_failed : (before after : Option (List ℕ)) → EndsPlainly asked once (at_a_time 4) before after ⊥ WriteFault
+a_write_failed before after = record { well = λ (same : WriteFault ≡ Done). absurd (cc); reports = λ (same : WriteFault ≡ Done). absurd (cc); done = λ _ failed. absurd failed }
 
--- Its journal asked for, a check, or a source that doesn't specify its texts, is no such request.
-asks_for_the_journal : (held : SourceTexts) (job : TextJob) → ¬ AsksPlainly held (Some (run g 4 1 once true)) job
-asks_for_the_journal held job asks = let same : Some (run g 4 1 once true) ≡ Some (run asks.file asks.limit asks.workers once false) = asks.asks in absurd (cc)
+-- Reports of any rounds may be asked for, and a profile; not a journal, a check, or a source that doesn't specify its texts.
+asks_for_rounds : (rounds : AskedRounds) → AsksRounds (Some (run g 4 1 rounds false)) g 4 1 rounds × AsksRounds (Some (profile g 4 1 rounds)) g 4 1 rounds
+asks_for_rounds rounds = (inl refl, inr refl)
 
-asks_for_a_check : (held : SourceTexts) (job : TextJob) → ¬ AsksPlainly held (Some (check g)) job
-asks_for_a_check held job asks = let same : Some (check g) ≡ Some (run asks.file asks.limit asks.workers once false) = asks.asks in absurd (cc)
+asks_for_the_journal : (held : SourceTexts) (rounds : AskedRounds) (job : TextJob) → ¬ AsksPlainly held (Some (run g 4 1 once true)) rounds job
+asks_for_the_journal held rounds job asks = by asks.file asks.limit asks.workers asks.asks
+  where
+    by : (file : List ℕ) (limit workers : ℕ) → ¬ AsksRounds (Some (run g 4 1 once true)) file limit workers rounds
+    by file limit workers (inl same) = absurd (cc)
+    by file limit workers (inr same) = absurd (cc)
 
-asks_for_nothing_known : (asked : Option Asked) (job : TextJob) → ¬ AsksPlainly None asked job
-asks_for_nothing_known asked job asks = let same : None ≡ Some asks.text = asks.specified in absurd (cc)
+asks_for_a_check : (held : SourceTexts) (rounds : AskedRounds) (job : TextJob) → ¬ AsksPlainly held (Some (check g)) rounds job
+asks_for_a_check held rounds job asks = by asks.file asks.limit asks.workers asks.asks
+  where
+    by : (file : List ℕ) (limit workers : ℕ) → ¬ AsksRounds (Some (check g)) file limit workers rounds
+    by file limit workers (inl same) = absurd (cc)
+    by file limit workers (inr same) = absurd (cc)
+
+asks_for_nothing_known : (asked : Option Asked) (rounds : AskedRounds) (job : TextJob) → ¬ AsksPlainly None asked rounds job
+asks_for_nothing_known asked rounds job asks = let same : None ≡ Some asks.text = asks.specified in absurd (cc)
 
 -- nor is one for a plan with a condition
 abbrev row : TaskRow
@@ -68,5 +87,5 @@ row = record { shape = Plain; takes = []; puts = [] }
 not_plain : ¬ IsPlainJob (worked_job chooses_a_branch 4)
 not_plain plain = let chosen : true ≡ false = plain.0.no_condition 0 row (omega arith) in false≢true (sym chosen)
 
-asks_for_a_condition : (held : SourceTexts) (asked : Option Asked) → ¬ AsksPlainly held asked (worked_job chooses_a_branch 4)
-asks_for_a_condition held asked asks = not_plain asks.plain
+asks_for_a_condition : (held : SourceTexts) (asked : Option Asked) (rounds : AskedRounds) → ¬ AsksPlainly held asked rounds (worked_job chooses_a_branch 4)
+asks_for_a_condition held asked rounds asks = not_plain asks.plain

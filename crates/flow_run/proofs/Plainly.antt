@@ -1,14 +1,15 @@
--- A run of a graph without conditions reports what one thread does, and is done exactly where that runs through.
-use Rattle.std.proofs.Common.{append-nil, ◌≡◌, ◌≢◌, ◌⊎◌, inl, inr, ℕ, ◌≤◌, Bool, false, List, [], ◌∷◌, ◌++◌, length, Option, Some, refl, sym, ap, ◌∙◌, subst, arith}
+-- Rounds of a graph without conditions report what one thread does, and are done exactly where that runs through.
+use Rattle.std.proofs.Common.{append-nil, ◌≡◌, ◌≢◌, ◌⊎◌, inl, inr, ℕ, ◌≤◌, Bool, false, List, [], ◌∷◌, ◌++◌, length, Option, Some, None, refl, sym, ap, ◌∙◌, subst, arith}
 use Rattle.std.specs.Prelude.{All, IsSomeAnd, slice_index_or}
 use Rattle.std.proofs.lemmas.Option.{none-some, same_Some}
 use Rattle.std.proofs.lemmas.List.Elements.{All-nil, All-cons}
+use Rattle.outside_io.specs.Sink.{Took}
 use Rattle.call_status.specs.declared.status.Status.{Status}
 use Rattle.call_status.specs.declared.status.Status.TheVariants.{Done, ReadFault, WriteFault, NoMemory}
 use Rattle.call_status.specs.declared.stop.Stop.{Stop}
 use Rattle.call_status.specs.declared.stop.Stop.TheVariants as stop
 use Rattle.call_status.specs.Statuses.{status_of}
-use Rattle.command_line.specs.Requests.{Asked, AskedRounds, asked_by, once, run, profile, judge, check, upgrade}
+use Rattle.command_line.specs.Requests.{Asked, AskedRounds, asked_by, run, profile, judge, check, upgrade}
 use Rattle.graph_file.proofs.PlanLemmas.{IsPlan-read}
 use Rattle.graph_plans.specs.PlanRows.{PlanRows}
 use Rattle.graph_file.specs.PlanText.{PlanText}
@@ -21,19 +22,21 @@ use Rattle.text_ops.specs.Lines.{normal}
 use Rattle.text_tasks.specs.declared.job.TextJob.{TextJob}
 use Rattle.text_tasks.specs.declared.job.TextJob.TheVariants.{Graph, Parts, Pipe}
 use Rattle.text_tasks.specs.JobMeaning.{text_job}
-use Rattle.run_laws.specs.PlainReport.{HasSameReport, IsPlainJob, IsPlanned, RunsWell, plain_report}
+use Rattle.run_laws.specs.PlainReport.{IsPlanned}
 use Rattle.pipe_laws.specs.TextPipes.{PipesInOrder}
 use Rattle.pipe_laws.proofs.TextInside.{pipes_in_order}
 use Rattle.run_laws.proofs.TextPlain.{same_report}
 use Rattle.flow_run.specs.declared.conclusion.Conclusion.{Conclusion}
 use Rattle.flow_run.specs.Requests.{SourceTexts, CanBeRun, IsHeld, IsRequestedJob, IsTextOf, TextsAre, file_limit, text_limit}
-use Rattle.nested_runs.specs.Rounds.{AreAllRounds, AreFirstRounds, AreRounds}
+use Rattle.nested_runs.specs.Rounds.{AreAllRounds, AreFirstRounds}
 use Rattle.flow_run.specs.Answers.{CallEnds, IsAfterRun, RunEnds, TextRun, conclusion_text, output_of, runs_text}
 use Rattle.flow_run.specs.RoundTexts.{last_reason, round_rule, rounds_text}
 use Rattle.flow_run.specs.Completion.{IsAtHand}
-use Rattle.flow_run.specs.Plainly.{AsksPlainly, IsReportedPlainly}
+use Rattle.flow_run.specs.Plainly.{AsksPlainly, AsksRounds, IsReportedPlainly, TookReports}
+use Rattle.flow_run.specs.PlainRounds.{RoundsRunWell, plain_rounds}
 use Rattle.flow_run.proofs.Completing.{completes, one_plan}
-use Rattle.flow_run.proofs.RoundLemmas.{one_round, rounds_planned, run_of_profile}
+use Rattle.flow_run.proofs.PlainRounds.{plain_rounds_fine, plain_rounds_well, plain_rounds_written}
+use Rattle.flow_run.proofs.RoundLemmas.{rounds_planned, run_of_profile}
 
 -- ---- a source that specifies its texts holds one job
 
@@ -76,8 +79,8 @@ all_held text (name ∷ names) (t ∷ ts) are =
     All-cons (λ n. IsSomeAnd (text n) (λ bytes. length bytes ≤ text_limit)) name names
     (subst (λ o. IsSomeAnd o (λ bytes. length bytes ≤ text_limit)) (sym are.0.read.0) are.0.read.1) (all_held text names ts are.1)
 
-at_hand : (held : SourceTexts) (asked : Option Asked) (job : TextJob) → AsksPlainly held asked job → IsAtHand held asked
-at_hand held asked (Graph work) asks =
+at_hand : (held : SourceTexts) (asked : Option Asked) (rounds : AskedRounds) (job : TextJob) → AsksPlainly held asked rounds job → IsAtHand held asked
+at_hand held asked rounds (Graph work) asks =
     let requested : IsRequestedJob (Some asks.text) asks.file asks.limit (Graph work) = subst (λ h. IsRequestedJob h asks.file asks.limit (Graph work)) asks.specified asks.requested in
     let can : CanBeRun asks.text asks.file = record {
       plan = work.plan;
@@ -85,9 +88,13 @@ at_hand held asked (Graph work) asks =
       source = requested.plan.source;
       named = all_held asks.text work.plan.texts work.texts requested.texts;
     } in
-    subst (λ h. IsAtHand h asked) (sym asks.specified) (subst (λ a. IsAtHand (Some asks.text) a) (sym asks.asks) can)
-at_hand held asked (Parts work) asks = absurd asks.requested
-at_hand held asked (Pipe work) asks = absurd asks.requested
+    subst (λ h. IsAtHand h asked) (sym asks.specified)
+    (elim asks.asks [
+      | inl reports ↦ subst (λ a. IsAtHand (Some asks.text) a) (sym reports) can
+      | inr profiles ↦ subst (λ a. IsAtHand (Some asks.text) a) (sym profiles) can
+    ])
+at_hand held asked rounds (Parts work) asks = absurd asks.requested
+at_hand held asked rounds (Pipe work) asks = absurd asks.requested
 
 -- ---- how the call ends
 
@@ -116,20 +123,26 @@ planned held file limit (Graph work) is = (IsPlan-read is.plan.bytes work.plan i
 planned held file limit (Parts work) is = absurd is
 planned held file limit (Pipe work) is = absurd is
 
-no_run_and_judgement : (file other name : List ℕ) (limit most workers : ℕ) (rounds : AskedRounds) (journal : Bool) → Some (run file limit workers rounds journal) ≡ Some (judge other name most) → ⊥
-no_run_and_judgement file other name limit most workers rounds journal same = cc
+-- the rounds that are asked for, and of what file, with at most so many starts
+abbrev rounds_of : Option Asked → Option (List ℕ × ℕ × AskedRounds)
+rounds_of None = None
+rounds_of (Some (run file limit workers rounds journal)) = Some (file, limit, rounds)
+rounds_of (Some (profile file limit workers rounds)) = Some (file, limit, rounds)
+rounds_of (Some (judge file name limit)) = None
+rounds_of (Some (check file)) = None
+rounds_of (Some (upgrade file)) = None
 
 no_run_and_profile : (file other : List ℕ) (limit most workers hands : ℕ) (rounds often : AskedRounds) (journal : Bool) → Some (run file limit workers rounds journal) ≡ Some (profile other most hands often) → ⊥
 no_run_and_profile file other limit most workers hands rounds often journal same = cc
+
+no_run_and_judgement : (file other name : List ℕ) (limit most workers : ℕ) (rounds : AskedRounds) (journal : Bool) → Some (run file limit workers rounds journal) ≡ Some (judge other name most) → ⊥
+no_run_and_judgement file other name limit most workers rounds journal same = cc
 
 no_run_and_check : (file other : List ℕ) (limit workers : ℕ) (rounds : AskedRounds) (journal : Bool) → Some (run file limit workers rounds journal) ≡ Some (check other) → ⊥
 no_run_and_check file other limit workers rounds journal same = cc
 
 no_run_and_upgrade : (file other : List ℕ) (limit workers : ℕ) (rounds : AskedRounds) (journal : Bool) → Some (run file limit workers rounds journal) ≡ Some (upgrade other) → ⊥
 no_run_and_upgrade file other limit workers rounds journal same = cc
-
-same_request : (file other : List ℕ) (limit most workers hands : ℕ) (rounds often : AskedRounds) (journal instead : Bool) → Some (run file limit workers rounds journal) ≡ Some (run other most hands often instead) → (file ≡ other) × (limit ≡ most) × (rounds ≡ often)
-same_request file other limit most workers hands rounds often journal instead same = (cc, cc, cc)
 
 -- What holds of each kept run of a plan's top graph.
 abbrev EachKept : (TextRun → Type 0) → Type 0
@@ -163,71 +176,91 @@ kept_plainly = each_kept IsReportedPlainly (λ run planned kept plain. same_repo
 pub kept_in_order : (held : SourceTexts) (arguments : List (List ℕ)) (status : Status) (runs : List TextRun) (concluded : Option Conclusion) → CallEnds held arguments status runs concluded → All PipesInOrder runs
 kept_in_order = each_kept PipesInOrder pipes_in_order
 
-module _ (held : SourceTexts) (arguments : List (List ℕ)) (status : Status) (job : TextJob) (asks : AsksPlainly held (asked_by arguments) job) where
+module _ (held : SourceTexts) (arguments : List (List ℕ)) (status : Status) (rounds : AskedRounds) (job : TextJob) (asks : AsksPlainly held (asked_by arguments) rounds job) where
+  asked_rounds : rounds_of (asked_by arguments) ≡ Some (asks.file, asks.limit, rounds)
+  asked_rounds = elim asks.asks [ inl reports ↦ ap rounds_of reports | inr profiles ↦ ap rounds_of profiles ]
+
+  is_planned : IsPlanned job
+  is_planned = planned held asks.file asks.limit job asks.requested
+
   -- the job whose rounds are run is this one
-  asked_job : (of : TextJob) (file : List ℕ) (limit : ℕ) (rounds : AskedRounds) → (file ≡ asks.file) × (limit ≡ asks.limit) × (rounds ≡ once) → IsRequestedJob held file limit of → of ≡ job
-  asked_job of file limit rounds same is =
-      one_job asks.text asks.file asks.limit of job
-      (subst (λ h. IsRequestedJob h asks.file asks.limit of) asks.specified (subst (λ f. IsRequestedJob held f asks.limit of) same.0 (subst (λ l. IsRequestedJob held file l of) same.1 is)))
+  asked_job : (of : TextJob) → IsRequestedJob held asks.file asks.limit of → of ≡ job
+  asked_job of is =
+      one_job asks.text asks.file asks.limit of job (subst (λ h. IsRequestedJob h asks.file asks.limit of) asks.specified is)
       (subst (λ h. IsRequestedJob h asks.file asks.limit job) asks.specified asks.requested)
 
-  -- The one run that is kept is of the job, and reports what one thread does.
-  kept_same : (ran : TextRun) (runs : List TextRun) (of : TextJob) → of ≡ job → runs ≡ ran ∷ [] → AreRounds text_job of runs → (job_of ran ≡ job) × HasSameReport ran
-  kept_same ran runs of same only rounds =
-      let are : AreRounds text_job of (ran ∷ []) = subst (AreRounds text_job of) only rounds in
-      let is : job_of ran ≡ job = are.first ∙ same in
-      (is, same_report ran (subst IsPlainJob (sym is) asks.plain) (subst IsPlanned (sym is) (planned held asks.file asks.limit job asks.requested)) (are.kept 0 ran (omega arith)))
+  abbrev EndsAsAsked : List TextRun → Type 0
+  EndsAsAsked runs = RunEnds held asks.file asks.limit rounds status runs ⊎ ((status ≡ NoMemory) × (runs ≡ []))
 
-  request : (file : List ℕ) (limit workers : ℕ) (rounds : AskedRounds) (journal : Bool) → asked_by arguments ≡ Some (run file limit workers rounds journal) → (file ≡ asks.file) × (limit ≡ asks.limit) × (rounds ≡ once)
-  request file limit workers rounds journal asked = same_request file asks.file limit asks.limit workers asks.workers rounds once journal false (sym asked ∙ asks.asks)
+  same_rounds : (file : List ℕ) (limit : ℕ) (often : AskedRounds) (runs : List TextRun) → rounds_of (asked_by arguments) ≡ Some (file, limit, often) → RunEnds held file limit often status runs
+      → EndsAsAsked runs
+  same_rounds file limit often runs asked ends =
+      let same : (file, limit, often) ≡ (asks.file, asks.limit, rounds) = same_Some _ _ (sym asked ∙ asked_rounds) in
+      inl (subst (λ (t : List ℕ × ℕ × AskedRounds). RunEnds held t.0 t.1 t.2 status runs) same ends)
 
-  -- a run that is kept, if there is one, is fine where the values by one thread run through
-  one_fine : (of : TextJob) (runs : List TextRun) → of ≡ job → AreFirstRounds text_job of (round_rule once) runs → RunsWell job → All (λ r. run_reason text_job r ≡ Fine) runs
-  one_fine of [] same first well = All-nil _
-  one_fine of (ran ∷ []) same first well =
-      let kept = kept_same ran (ran ∷ []) of same refl first.rounds in
-      All-cons (λ r. run_reason text_job r ≡ Fine) ran [] (kept.1.fine.1 (subst RunsWell (sym kept.0) well)) (All-nil _)
-  one_fine of (ran ∷ next ∷ rest) same first well = absurd (omega (arith, first.few))
+  none_asked : (runs : List TextRun) → rounds_of (asked_by arguments) ≡ None → EndsAsAsked runs
+  none_asked runs none = absurd (none-some (asks.file, asks.limit, rounds) (sym none ∙ asked_rounds))
 
-  -- Where the values by one thread run through, the run that is kept, if there is one, is fine.
-  all_fine : (runs : List TextRun) (concluded : Option Conclusion) → CallEnds held arguments status runs concluded → RunsWell job → All (λ r. run_reason text_job r ≡ Fine) runs
-  all_fine runs concluded (inl (file, limit, workers, rounds, journal, asked, inl stopped, none)) well = subst (All (λ r. run_reason text_job r ≡ Fine)) (sym stopped.none) (All-nil _)
-  all_fine runs concluded (inl (file, limit, workers, rounds, journal, asked, inr ran, none)) well =
-      let same = request file limit workers rounds journal asked in
-      one_fine ran.job runs (asked_job ran.job file limit rounds same ran.is) (subst (λ often. AreFirstRounds text_job ran.job (round_rule often) runs) same.2 ran.first) well
-  all_fine runs concluded (inr (inl (file, limit, workers, rounds, asked, ends))) well = absurd (no_run_and_profile asks.file file asks.limit limit asks.workers workers once rounds false (sym asks.asks ∙ asked))
-  all_fine runs concluded (inr (inr (inl (file, name, limit, asked, ends, none)))) well = subst (All (λ r. run_reason text_job r ≡ Fine)) (sym none) (All-nil _)
-  all_fine runs concluded (inr (inr (inr (inl (file, asked, ends, none))))) well = subst (All (λ r. run_reason text_job r ≡ Fine)) (sym none) (All-nil _)
-  all_fine runs concluded (inr (inr (inr (inr (inl (file, asked, ends, none)))))) well = subst (All (λ r. run_reason text_job r ≡ Fine)) (sym none) (All-nil _)
-  all_fine runs concluded (inr (inr (inr (inr (inr (inl (same, none, nothing, never))))))) well = subst (All (λ r. run_reason text_job r ≡ Fine)) (sym none) (All-nil _)
-  all_fine runs concluded (inr (inr (inr (inr (inr (inr (same, none, nothing))))))) well = subst (All (λ r. run_reason text_job r ≡ Fine)) (sym none) (All-nil _)
+  -- The call runs the rounds that are asked for, of the file that is named, or meets want of memory before.
+  ends_as_asked : (runs : List TextRun) (concluded : Option Conclusion) → CallEnds held arguments status runs concluded → EndsAsAsked runs
+  ends_as_asked runs concluded (inl (file, limit, workers, often, journal, asked, ends, none)) = same_rounds file limit often runs (ap rounds_of asked) ends
+  ends_as_asked runs concluded (inr (inl (file, limit, workers, often, asked, ends))) = same_rounds file limit often runs (ap rounds_of asked) (run_of_profile held file limit often status runs concluded ends)
+  ends_as_asked runs concluded (inr (inr (inl (file, name, limit, asked, ends, none)))) = none_asked runs (ap rounds_of asked)
+  ends_as_asked runs concluded (inr (inr (inr (inl (file, asked, ends, none))))) = none_asked runs (ap rounds_of asked)
+  ends_as_asked runs concluded (inr (inr (inr (inr (inl (file, asked, ends, none)))))) = none_asked runs (ap rounds_of asked)
+  ends_as_asked runs concluded (inr (inr (inr (inr (inr (inl (same, none, nothing, never))))))) = none_asked runs (ap rounds_of never)
+  ends_as_asked runs concluded (inr (inr (inr (inr (inr (inr (memory, none, nothing))))))) = inr (memory, none)
+
+  -- Where the values of each round by one thread run through, each run that is kept is fine.
+  all_fine : (runs : List TextRun) → EndsAsAsked runs → RoundsRunWell rounds job → All (λ r. run_reason text_job r ≡ Fine) runs
+  all_fine runs (inl (inl stopped)) well = subst (All (λ r. run_reason text_job r ≡ Fine)) (sym stopped.none) (All-nil _)
+  all_fine runs (inl (inr ran)) well =
+      plain_rounds_fine rounds job runs asks.plain is_planned (subst (λ (of : TextJob). AreFirstRounds text_job of (round_rule rounds) runs) (asked_job ran.job ran.is) ran.first) well
+  all_fine runs (inr (memory, none)) well = subst (All (λ r. run_reason text_job r ≡ Fine)) (sym none) (All-nil _)
 
   -- So nothing but a failure or want of memory keeps the call from being done.
-  pub plain_completes : (runs : List TextRun) (concluded : Option Conclusion) → CallEnds held arguments status runs concluded → RunsWell job → ((n : List ℕ) → status ≢ ReadFault n) → status ≢ WriteFault → (status ≡ Done) ⊎ (status ≡ NoMemory)
-  plain_completes runs concluded ends well read write = completes status read write held arguments runs concluded ends (at_hand held (asked_by arguments) job asks) (all_fine runs concluded ends well)
+  pub plain_completes : (runs : List TextRun) (concluded : Option Conclusion) → CallEnds held arguments status runs concluded → RoundsRunWell rounds job → ((n : List ℕ) → status ≢ ReadFault n) → status ≢ WriteFault → (status ≡ Done) ⊎ (status ≡ NoMemory)
+  plain_completes runs concluded ends well read write =
+      completes status read write held arguments runs concluded ends (at_hand held (asked_by arguments) rounds job asks) (all_fine runs (ends_as_asked runs concluded ends) well)
 
-  -- Where it is done, the values by one thread run through, and what is written is their report.
-  pub plain_done : (runs : List TextRun) (concluded : Option Conclusion) → CallEnds held arguments status runs concluded → status ≡ Done → (output_of arguments runs concluded ≡ plain_report job) × RunsWell job
-  plain_done runs concluded (inl (file, limit, workers, rounds, journal, asked, inl stopped, none)) done = absurd (never_done stopped.why (sym stopped.reported ∙ done))
-  plain_done runs concluded (inl (file, limit, workers, rounds, journal, asked, inr ran, none)) done =
-      let same = request file limit workers rounds journal asked in
-      let memory : status ≢ NoMemory = λ no. let never : NoMemory ≡ Done = sym no ∙ done in absurd (cc) in
-      let one = one_round ran.job runs (subst (λ often. AreAllRounds text_job ran.job (round_rule often) runs) same.2 (ran.all memory)) in
-      let kept = kept_same one.0 runs ran.job (asked_job ran.job file limit rounds same ran.is) one.1 ran.first.rounds in
-      let after : IsAfterRun (run_reason text_job one.0) status = subst (λ rs. IsAfterRun (last_reason rs) status) one.1 ran.after in
-      let fine : run_reason text_job one.0 ≡ Fine = done_fine (run_reason text_job one.0) (subst (IsAfterRun (run_reason text_job one.0)) done after) in (
-        ap (λ asked. runs_text asked runs ++ conclusion_text concluded) asks.asks
-            ∙ ap (λ rs. rounds_text once false rs ++ conclusion_text concluded) one.1
-            ∙ ap (λ c. rounds_text once false (one.0 ∷ []) ++ conclusion_text c) none
-            ∙ append-nil _
-            ∙ append-nil _
-            ∙ kept.1.report fine
-            ∙ ap plain_report kept.0,
-        subst RunsWell kept.0 (kept.1.fine.0 fine),
+  -- a call that is done has run all rounds, and the last is fine
+  done_rounds : (runs : List TextRun) → EndsAsAsked runs → status ≡ Done → AreAllRounds text_job job (round_rule rounds) runs × (last_reason runs ≡ Fine)
+  done_rounds runs (inl (inl stopped)) done = absurd (never_done stopped.why (sym stopped.reported ∙ done))
+  done_rounds runs (inl (inr ran)) done =
+      let memory : status ≢ NoMemory = λ no. let never : NoMemory ≡ Done = sym no ∙ done in absurd (cc) in (
+        subst (λ (of : TextJob). AreAllRounds text_job of (round_rule rounds) runs) (asked_job ran.job ran.is) (ran.all memory),
+        done_fine (last_reason runs) (subst (IsAfterRun (last_reason runs)) done ran.after),
       )
-  plain_done runs concluded (inr (inl (file, limit, workers, rounds, asked, ends))) done = absurd (no_run_and_profile asks.file file asks.limit limit asks.workers workers once rounds false (sym asks.asks ∙ asked))
-  plain_done runs concluded (inr (inr (inl (file, name, limit, asked, ends, none)))) done = absurd (no_run_and_judgement asks.file file name asks.limit limit asks.workers once false (sym asks.asks ∙ asked))
-  plain_done runs concluded (inr (inr (inr (inl (file, asked, ends, none))))) done = absurd (no_run_and_check asks.file file asks.limit asks.workers once false (sym asks.asks ∙ asked))
-  plain_done runs concluded (inr (inr (inr (inr (inl (file, asked, ends, none)))))) done = absurd (no_run_and_upgrade asks.file file asks.limit asks.workers once false (sym asks.asks ∙ asked))
-  plain_done runs concluded (inr (inr (inr (inr (inr (inl (same, none, nothing, never))))))) done = absurd (none-some (run asks.file asks.limit asks.workers once false) (sym never ∙ asks.asks))
-  plain_done runs concluded (inr (inr (inr (inr (inr (inr (same, none, nothing))))))) done = absurd (let never : NoMemory ≡ Done = sym same ∙ done in cc)
+  done_rounds runs (inr (memory, none)) done = absurd (let never : NoMemory ≡ Done = sym memory ∙ done in cc)
+
+  -- Where it is done, the values of each round by one thread run through,
+  pub plain_done : (runs : List TextRun) (concluded : Option Conclusion) → CallEnds held arguments status runs concluded → status ≡ Done → RoundsRunWell rounds job
+  plain_done runs concluded ends done =
+      let all = done_rounds runs (ends_as_asked runs concluded ends) done in
+      plain_rounds_well rounds job runs asks.plain is_planned all.0 all.1
+
+  -- nothing is concluded of rounds whose reports are asked for
+  no_conclusion : (file : List ℕ) (limit workers : ℕ) → asked_by arguments ≡ Some (run file limit workers rounds false) → (runs : List TextRun) (concluded : Option Conclusion) → CallEnds held arguments status runs concluded → concluded ≡ None
+  no_conclusion file limit workers reports runs concluded (inl (other, most, hands, often, journal, asked, ends, none)) = none
+  no_conclusion file limit workers reports runs concluded (inr (inl (other, most, hands, often, asked, ends))) = absurd (no_run_and_profile file other limit most workers hands rounds often false (sym reports ∙ asked))
+  no_conclusion file limit workers reports runs concluded (inr (inr (inl (other, name, most, asked, ends, none)))) = absurd (no_run_and_judgement file other name limit most workers rounds false (sym reports ∙ asked))
+  no_conclusion file limit workers reports runs concluded (inr (inr (inr (inl (other, asked, ends, none))))) = absurd (no_run_and_check file other limit workers rounds false (sym reports ∙ asked))
+  no_conclusion file limit workers reports runs concluded (inr (inr (inr (inr (inl (other, asked, ends, none)))))) = absurd (no_run_and_upgrade file other limit workers rounds false (sym reports ∙ asked))
+  no_conclusion file limit workers reports runs concluded (inr (inr (inr (inr (inr (inl (same, none, nothing, never))))))) = nothing
+  no_conclusion file limit workers reports runs concluded (inr (inr (inr (inr (inr (inr (memory, none, nothing))))))) = nothing
+
+  -- and what is written, where reports are asked for, are theirs.
+  pub plain_written : (runs : List TextRun) (concluded : Option Conclusion) → CallEnds held arguments status runs concluded → status ≡ Done
+      → (before after : Option (List ℕ)) → Took before after (output_of arguments runs concluded) → TookReports (asked_by arguments) job before after
+  plain_written runs concluded ends done before after took = by_request asks.asks
+    where
+      by_request : AsksRounds (asked_by arguments) asks.file asks.limit asks.workers rounds → TookReports (asked_by arguments) job before after
+      by_request (inr profiles) = subst (λ asked. TookReports asked job before after) (sym profiles) tt
+      by_request (inl reports) =
+          let all = done_rounds runs (ends_as_asked runs concluded ends) done in
+          let same : output_of arguments runs concluded ≡ plain_rounds rounds job =
+          ap (λ asked. runs_text asked runs ++ conclusion_text concluded) reports
+          ∙ ap (λ c. rounds_text rounds false runs ++ conclusion_text c) (no_conclusion asks.file asks.limit asks.workers reports runs concluded ends)
+          ∙ append-nil _
+          ∙ plain_rounds_written rounds job runs asks.plain is_planned all.0 all.1 in
+          subst (λ asked. TookReports asked job before after) (sym reports) (subst (Took before after) same took)

@@ -5,6 +5,7 @@ pub mod PlanFiles
 pub mod Checks
 pub mod Upgrades
 pub mod RoundTexts
+pub mod PlainRounds
 pub mod Profiles
 pub mod Watched
 pub mod Answers
