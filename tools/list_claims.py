@@ -25,7 +25,7 @@ UNCLAIMED = {
         "run_laws/specs/PlainReport.antt: HasSameReport ReportsAlike ReportsPlainly",
     ),
     "cited only by such a law": (
-        "run_laws/specs/PlainReport.antt: IsPlanned plain_next",
+        "run_laws/specs/PlainReport.antt: IsPlanned",
     ),
     "cited only by the law that text jobs are plain": (
         "run_laws/specs/PlainJobs.antt: IsGraphJob IsInside IsPlainly LeadsTo",

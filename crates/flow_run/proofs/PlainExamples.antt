@@ -6,7 +6,7 @@ use Rattle.std.proofs.lemmas.List.Elements.{All-nil, All-cons, All-head}
 use Rattle.task_graph.specs.declared.net.Shape.TheVariants.{Plain}
 use Rattle.task_graph.specs.declared.net.TaskRow.{TaskRow}
 use Rattle.call_status.specs.declared.status.Status.TheVariants.{Done, Limit, NoMemory, WriteFault}
-use Rattle.command_line.specs.Requests.{Asked, AskedRounds, once, run, profile, check}
+use Rattle.command_line.specs.Requests.{Asked, AskedRounds, once, times, most_rounds, run, profile, judge, check, upgrade}
 use Rattle.run_laws.specs.PlainReport.{IsPlainJob, RunsWell}
 use Rattle.run_laws.specs.SmallPlans.{chooses_a_branch, kept_together, worked_job}
 use Rattle.text_tasks.specs.declared.job.TextJob.{TextJob}
@@ -31,51 +31,64 @@ abbrev known_at : ℕ → Option (List ℕ) → ℕ
 known_at n None = 0
 known_at n (Some bytes) = get_or bytes n 0
 
-abbrev asked : Option Asked
-asked = Some (run g 4 1 once false)
+abbrev reports_once : Option Asked
+reports_once = Some (run g 4 1 once false)
 
 runs_well : RoundsRunWell once (at_a_time 4)
 runs_well = All-cons RunsWell (at_a_time 4) [] refl (All-nil RunsWell)
 
-done_with_its_report : EndsPlainly asked once (at_a_time 4) (Some (7 ∷ [])) (Some (7 ∷ report)) (Unit {0}) Done
+done_with_its_report : EndsPlainly reports_once once (at_a_time 4) (Some (7 ∷ [])) (Some (7 ∷ report)) (Unit {0}) Done
 done_with_its_report = record { well = λ _. runs_well; reports = λ _. refl; done = λ _ _. inl refl }
 
-done_over_the_limit : (before after : Option (List ℕ)) → ¬ EndsPlainly asked once (at_a_time 3) before after (Unit {0}) Done
+done_over_the_limit : (before after : Option (List ℕ)) → ¬ EndsPlainly reports_once once (at_a_time 3) before after (Unit {0}) Done
 done_over_the_limit before after ends = false≢true (All-head RunsWell (at_a_time 3) [] (ends.well refl))
 
-two_values_exchanged : ¬ EndsPlainly asked once (at_a_time 4) (Some []) (Some (codes "== k\nb\n== h\na1\na2\n")) (Unit {0}) Done
+two_values_exchanged : ¬ EndsPlainly reports_once once (at_a_time 4) (Some []) (Some (codes "== k\nb\n== h\na1\na2\n")) (Unit {0}) Done
 two_values_exchanged ends = absurd (omega (arith, ap (known_at 5) (ends.reports refl)))
 
-only_the_first_predecessor : ¬ EndsPlainly asked once (at_a_time 4) (Some []) (Some (codes "== k\na1\n== h\nb\n")) (Unit {0}) Done
+only_the_first_predecessor : ¬ EndsPlainly reports_once once (at_a_time 4) (Some []) (Some (codes "== k\na1\n== h\nb\n")) (Unit {0}) Done
 only_the_first_predecessor ends = absurd (omega (arith, ap known_length (ends.reports refl)))
 
-not_done_within_the_limit : (before after : Option (List ℕ)) → ¬ EndsPlainly asked once (at_a_time 4) before after (Unit {0}) (Limit [] 4)
+not_done_within_the_limit : (before after : Option (List ℕ)) → ¬ EndsPlainly reports_once once (at_a_time 4) before after (Unit {0}) (Limit [] 4)
 not_done_within_the_limit before after ends = by (ends.done runs_well tt)
   where
     by : (Limit [] 4 ≡ Done) ⊎ (Limit [] 4 ≡ NoMemory) → ⊥
     by (inl same) = cc
     by (inr same) = cc
 
-a_write_failed : (before after : Option (List ℕ)) → EndsPlainly asked once (at_a_time 4) before after ⊥ WriteFault
+a_write_failed : (before after : Option (List ℕ)) → EndsPlainly reports_once once (at_a_time 4) before after ⊥ WriteFault
 a_write_failed before after = record { well = λ (same : WriteFault ≡ Done). absurd (cc); reports = λ (same : WriteFault ≡ Done). absurd (cc); done = λ _ failed. absurd failed }
 
 -- Reports of any rounds may be asked for, and a profile; not a journal, a check, or a source that doesn't specify its texts.
 asks_for_rounds : (rounds : AskedRounds) → AsksRounds (Some (run g 4 1 rounds false)) g 4 1 rounds × AsksRounds (Some (profile g 4 1 rounds)) g 4 1 rounds
 asks_for_rounds rounds = (inl refl, inr refl)
 
+no_journal_is_asked : (file : List ℕ) (limit workers : ℕ) (rounds : AskedRounds) → ¬ AsksRounds (Some (run g 4 1 once true)) file limit workers rounds
+no_journal_is_asked file limit workers rounds (inl same) = absurd (cc)
+no_journal_is_asked file limit workers rounds (inr same) = absurd (cc)
+
 asks_for_the_journal : (held : SourceTexts) (rounds : AskedRounds) (job : TextJob) → ¬ AsksPlainly held (Some (run g 4 1 once true)) rounds job
-asks_for_the_journal held rounds job asks = by asks.file asks.limit asks.workers asks.asks
-  where
-    by : (file : List ℕ) (limit workers : ℕ) → ¬ AsksRounds (Some (run g 4 1 once true)) file limit workers rounds
-    by file limit workers (inl same) = absurd (cc)
-    by file limit workers (inr same) = absurd (cc)
+asks_for_the_journal held rounds job asks = no_journal_is_asked asks.file asks.limit asks.workers rounds asks.asks
+
+no_check_is_asked : (file : List ℕ) (limit workers : ℕ) (rounds : AskedRounds) → ¬ AsksRounds (Some (check g)) file limit workers rounds
+no_check_is_asked file limit workers rounds (inl same) = absurd (cc)
+no_check_is_asked file limit workers rounds (inr same) = absurd (cc)
 
 asks_for_a_check : (held : SourceTexts) (rounds : AskedRounds) (job : TextJob) → ¬ AsksPlainly held (Some (check g)) rounds job
-asks_for_a_check held rounds job asks = by asks.file asks.limit asks.workers asks.asks
-  where
-    by : (file : List ℕ) (limit workers : ℕ) → ¬ AsksRounds (Some (check g)) file limit workers rounds
-    by file limit workers (inl same) = absurd (cc)
-    by file limit workers (inr same) = absurd (cc)
+asks_for_a_check held rounds job asks = no_check_is_asked asks.file asks.limit asks.workers rounds asks.asks
+
+-- The rounds, the file and the limit are those that are asked for.
+abbrev most_asked : Option Asked → ℕ
+most_asked None = 0
+most_asked (Some (run file limit workers rounds journal)) = most_rounds rounds
+most_asked (Some (profile file limit workers rounds)) = most_rounds rounds
+most_asked (Some (judge file name limit)) = 0
+most_asked (Some (check file)) = 0
+most_asked (Some (upgrade file)) = 0
+
+of_other_rounds : (workers : ℕ) → ¬ AsksRounds (Some (run g 4 1 (times 2) false)) g 4 workers (times 3)
+of_other_rounds workers (inl same) = let most : 2 ≡ 3 = ap most_asked same in absurd (omega (arith, most))
+of_other_rounds workers (inr same) = absurd (cc)
 
 asks_for_nothing_known : (asked : Option Asked) (rounds : AskedRounds) (job : TextJob) → ¬ AsksPlainly None asked rounds job
 asks_for_nothing_known asked rounds job asks = let same : None ≡ Some asks.text = asks.specified in absurd (cc)

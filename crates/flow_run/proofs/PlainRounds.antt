@@ -19,8 +19,9 @@ use Rattle.run_laws.specs.Output.{report_of}
 use Rattle.run_laws.specs.PlainReport.{HasSameReport, IsPlainJob, IsPlanned, RunsWell, plain_feedback, plain_next, plain_report}
 use Rattle.run_laws.proofs.Reasons.{counts_reason, reason_counts}
 use Rattle.run_laws.proofs.TextPlain.{same_report}
-use Rattle.flow_run.specs.PlainRounds.{RoundsRunWell, ends_with, jobs_by_turns, plain_jobs, plain_round, plain_rounds}
+use Rattle.flow_run.specs.PlainRounds.{RoundsRunWell, ends_with, jobs_by_turns, plain_round, plain_rounds}
 use Rattle.flow_run.specs.RoundTexts.{TextRun, last_reason, line_before, round_rule, round_text, rounds_end, rounds_text}
+use Rattle.flow_run.proofs.RoundLemmas.{follows_planned}
 
 -- ---- a round and the next
 
@@ -29,11 +30,6 @@ follows_plain : (job next : TextJob) (run : TextRun) → JobFollows job run next
 follows_plain (Graph work) next run follows plain = subst IsPlainJob (sym follows) plain
 follows_plain (Parts work) next run follows plain = absurd follows
 follows_plain (Pipe work) next run follows plain = absurd follows
-
-follows_planned : (job next : TextJob) (run : TextRun) → JobFollows job run next → IsPlanned job → IsPlanned next
-follows_planned (Graph work) next run follows planned = subst IsPlanned (sym follows) planned
-follows_planned (Parts work) next run follows planned = absurd follows
-follows_planned (Pipe work) next run follows planned = absurd follows
 
 -- the text with which a job's graph is started
 abbrev input_of : TextJob → List ℕ

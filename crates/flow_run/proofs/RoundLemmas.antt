@@ -27,7 +27,7 @@ use Rattle.flow_run.specs.Answers.{IsAfterRun, JobEnds, ProfileEnds, RanProfile,
 use Rattle.flow_run.specs.RoundTexts.{TextRun, last_reason, round_rule}
 
 -- what follows a run of a plan's top graph is of that graph
-follows_planned : (job next : TextJob) (run : TextRun) → text_job.follows job run next → IsPlanned job → IsPlanned next
+pub follows_planned : (job next : TextJob) (run : TextRun) → text_job.follows job run next → IsPlanned job → IsPlanned next
 follows_planned (Graph work) next run follows planned = subst IsPlanned (sym follows) planned
 follows_planned (Parts work) next run follows planned = absurd follows
 follows_planned (Pipe work) next run follows planned = absurd follows

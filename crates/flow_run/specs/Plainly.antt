@@ -1,5 +1,5 @@
 -- What a call does that is asked for the rounds of a plan without conditions, whatever the number of workers.
-use Rattle.std.specs.Prelude.{◌≡◌, ◌⊎◌, ℕ, Bool, true, false, List, Option, Some}
+use Rattle.std.specs.Prelude.{◌≡◌, ◌⊎◌, ℕ, false, List, Option, Some}
 use Rattle.outside_io.specs.Sink.{Took}
 use Rattle.run_frame.specs.NestedRule.{job_of}
 use Rattle.text_tasks.specs.declared.job.TextJob.{TextJob}
