@@ -77,7 +77,6 @@ no_check_is_asked file limit workers rounds (inr same) = absurd (cc)
 asks_for_a_check : (held : SourceTexts) (rounds : AskedRounds) (job : TextJob) → ¬ AsksPlainly held (Some (check g)) rounds job
 asks_for_a_check held rounds job asks = no_check_is_asked asks.file asks.limit asks.workers rounds asks.asks
 
--- The rounds, the file and the limit are those that are asked for.
 abbrev most_asked : Option Asked → ℕ
 most_asked None = 0
 most_asked (Some (run file limit workers rounds journal)) = most_rounds rounds
@@ -86,6 +85,7 @@ most_asked (Some (judge file name limit)) = 0
 most_asked (Some (check file)) = 0
 most_asked (Some (upgrade file)) = 0
 
+-- The rounds are those that are asked for.
 of_other_rounds : (workers : ℕ) → ¬ AsksRounds (Some (run g 4 1 (times 2) false)) g 4 workers (times 3)
 of_other_rounds workers (inl same) = let most : 2 ≡ 3 = ap most_asked same in absurd (omega (arith, most))
 of_other_rounds workers (inr same) = absurd (cc)
