@@ -10,6 +10,7 @@ mod RoundReports
 pub mod CheckLemmas
 pub mod Completing
 mod PlainRounds
+mod PlainProfiles
 pub mod Plainly
 pub mod Upgrading
 pub mod CallExamples

@@ -38,16 +38,16 @@ runs_well : RoundsRunWell once (at_a_time 4)
 runs_well = All-cons RunsWell (at_a_time 4) [] refl (All-nil RunsWell)
 
 done_with_its_report : EndsPlainly reports_once once (at_a_time 4) (Some (7 ∷ [])) (Some (7 ∷ report)) (Unit {0}) Done
-done_with_its_report = record { well = λ _. runs_well; reports = λ _. refl; done = λ _ _. inl refl }
+done_with_its_report = record { well = λ _. runs_well; output = λ _. refl; done = λ _ _. inl refl }
 
 done_over_the_limit : (before after : Option (List ℕ)) → ¬ EndsPlainly reports_once once (at_a_time 3) before after (Unit {0}) Done
 done_over_the_limit before after ends = false≢true (All-head RunsWell (at_a_time 3) [] (ends.well refl))
 
 two_values_exchanged : ¬ EndsPlainly reports_once once (at_a_time 4) (Some []) (Some (codes "== k\nb\n== h\na1\na2\n")) (Unit {0}) Done
-two_values_exchanged ends = absurd (omega (arith, ap (known_at 5) (ends.reports refl)))
+two_values_exchanged ends = absurd (omega (arith, ap (known_at 5) (ends.output refl)))
 
 only_the_first_predecessor : ¬ EndsPlainly reports_once once (at_a_time 4) (Some []) (Some (codes "== k\na1\n== h\nb\n")) (Unit {0}) Done
-only_the_first_predecessor ends = absurd (omega (arith, ap known_length (ends.reports refl)))
+only_the_first_predecessor ends = absurd (omega (arith, ap known_length (ends.output refl)))
 
 not_done_within_the_limit : (before after : Option (List ℕ)) → ¬ EndsPlainly reports_once once (at_a_time 4) before after (Unit {0}) (Limit [] 4)
 not_done_within_the_limit before after ends = by (ends.done runs_well tt)
@@ -57,7 +57,7 @@ not_done_within_the_limit before after ends = by (ends.done runs_well tt)
     by (inr same) = cc
 
 a_write_failed : (before after : Option (List ℕ)) → EndsPlainly reports_once once (at_a_time 4) before after ⊥ WriteFault
-a_write_failed before after = record { well = λ (same : WriteFault ≡ Done). absurd (cc); reports = λ (same : WriteFault ≡ Done). absurd (cc); done = λ _ failed. absurd failed }
+a_write_failed before after = record { well = λ (same : WriteFault ≡ Done). absurd (cc); output = λ (same : WriteFault ≡ Done). absurd (cc); done = λ _ failed. absurd failed }
 
 -- Reports of any rounds may be asked for, and a profile; not a journal, a check, or a source that doesn't specify its texts.
 asks_for_rounds : (rounds : AskedRounds) → AsksRounds (Some (run g 4 1 rounds false)) g 4 1 rounds × AsksRounds (Some (profile g 4 1 rounds)) g 4 1 rounds

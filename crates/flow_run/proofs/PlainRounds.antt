@@ -19,14 +19,14 @@ use Rattle.run_laws.specs.Output.{report_of}
 use Rattle.run_laws.specs.PlainReport.{HasSameReport, IsPlainJob, IsPlanned, RunsWell, plain_feedback, plain_next, plain_report}
 use Rattle.run_laws.proofs.Reasons.{counts_reason, reason_counts}
 use Rattle.run_laws.proofs.TextPlain.{same_report}
-use Rattle.flow_run.specs.PlainRounds.{RoundsRunWell, ends_with, jobs_by_turns, plain_round, plain_rounds}
+use Rattle.flow_run.specs.PlainRounds.{RoundsRunWell, ends_with, jobs_by_turns, plain_jobs, plain_round, plain_rounds}
 use Rattle.flow_run.specs.RoundTexts.{TextRun, last_reason, line_before, round_rule, round_text, rounds_end, rounds_text}
 use Rattle.flow_run.proofs.RoundLemmas.{follows_planned}
 
 -- ---- a round and the next
 
 -- what follows a run of a plan without conditions is of that plan
-follows_plain : (job next : TextJob) (run : TextRun) → JobFollows job run next → IsPlainJob job → IsPlainJob next
+pub follows_plain : (job next : TextJob) (run : TextRun) → JobFollows job run next → IsPlainJob job → IsPlainJob next
 follows_plain (Graph work) next run follows plain = subst IsPlainJob (sym follows) plain
 follows_plain (Parts work) next run follows plain = absurd follows
 follows_plain (Pipe work) next run follows plain = absurd follows
@@ -170,6 +170,7 @@ module _ (ends : List ℕ → Bool) where
   -- What holds of rounds that are all there and fine: they have just these jobs, and report what one thread does.
   record AreByTurns (most : ℕ) (job : TextJob) (runs : List TextRun) : Type 0 where
     jobs : map job_of runs ≡ jobs_by_turns ends most job
+    fine : All EndedFine runs
     well : All IsOfGoodJob runs
     reports : All ReportsSame runs
 
@@ -183,23 +184,24 @@ module _ (ends : List ℕ → Bool) where
   over_later n run next rest (inr (inr cut)) = inr (inr (subst (λ (o : Option TextRun). IsSomeAnd o (λ r. ¬ IsFine (journal_of r))) (last_later run next rest) cut))
 
   one_more : (n : ℕ) (job : TextJob) (run : TextRun) (rest : List TextRun) (plain : IsPlainJob job) (planned : IsPlanned job) (first : AreFirst ends (suc n) job (run ∷ rest)) → run_reason text_job run ≡ Fine
-      → map job_of rest ≡ after n job (ends (plain_feedback job)) → All IsOfGoodJob rest → All ReportsSame rest → AreByTurns (suc n) job (run ∷ rest)
-  one_more n job run rest plain planned first fine jobs well reports =
+      → map job_of rest ≡ after n job (ends (plain_feedback job)) → All EndedFine rest → All IsOfGoodJob rest → All ReportsSame rest → AreByTurns (suc n) job (run ∷ rest)
+  one_more n job run rest plain planned first fine jobs others well reports =
       let same = law n job run rest plain planned first in
       record {
         jobs = ap (λ (j : TextJob). j ∷ map job_of rest) (of_job n job run rest plain planned first) ∙ ap (λ js. job ∷ js) jobs;
+        fine = All-cons EndedFine run rest fine others;
         well = All-cons IsOfGoodJob run rest (same.fine.0 fine) well;
         reports = All-cons ReportsSame run rest (same.report fine) reports;
       }
 
   all_by_turns : (most : ℕ) (job : TextJob) (runs : List TextRun) → IsPlainJob job → IsPlanned job → AreFirst ends most job runs → AreOver most runs → last_reason runs ≡ Fine → AreByTurns most job runs
-  all_by_turns zero job [] plain planned first over fine = record { jobs = refl; well = All-nil IsOfGoodJob; reports = All-nil ReportsSame }
+  all_by_turns zero job [] plain planned first over fine = record { jobs = refl; fine = All-nil EndedFine; well = All-nil IsOfGoodJob; reports = All-nil ReportsSame }
   all_by_turns (suc n) job [] plain planned first (inl same) fine = absurd (omega (arith, same))
   all_by_turns (suc n) job [] plain planned first (inr (inl ended)) fine = absurd (false≢true ended)
   all_by_turns (suc n) job [] plain planned first (inr (inr cut)) fine = absurd cut
   all_by_turns zero job (run ∷ rest) plain planned first over fine = absurd (let few = first.few in omega (arith, few))
   all_by_turns (suc n) job (run ∷ []) plain planned first over fine =
-      one_more n job run [] plain planned first fine (sym (by_end over)) (All-nil IsOfGoodJob) (All-nil ReportsSame)
+      one_more n job run [] plain planned first fine (sym (by_end over)) (All-nil EndedFine) (All-nil IsOfGoodJob) (All-nil ReportsSame)
     where
       by_end : AreOver (suc n) (run ∷ []) → after n job (ends (plain_feedback job)) ≡ []
       by_end (inl same) = after_the_last job n (ends (plain_feedback job)) (omega (arith, same))
@@ -210,7 +212,7 @@ module _ (ends : List ℕ → Bool) where
       let others : AreByTurns n (job_of next) (next ∷ rest) =
       all_by_turns n (job_of next) (next ∷ rest) (next_plain n job run next rest plain planned first here) (next_planned n job run next rest plain planned first here) (later ends n job run next rest first)
       (over_later n run next rest over) (ap (λ (o : Option TextRun). option_map_or (run_reason text_job) o Fine) (sym (last_later run next rest)) ∙ fine) in
-      one_more n job run (next ∷ rest) plain planned first here (others.jobs ∙ sym (jobs_left n job run next rest plain planned first here)) others.well others.reports
+      one_more n job run (next ∷ rest) plain planned first here (others.jobs ∙ sym (jobs_left n job run next rest plain planned first here)) others.fine others.well others.reports
 
 -- what is written of runs that report what one thread does
 written_same : (asked : AskedRounds) (n : ℕ) (runs : List TextRun) → All ReportsSame runs
@@ -236,7 +238,14 @@ module _ (asked : AskedRounds) (job : TextJob) (runs : List TextRun) (plain : Is
       over (inr (inl ended)) = inr (inl (sym (asked_ends asked runs) ∙ ended))
       over (inr (inr cut)) = inr (inr cut)
 
-  -- So each recursion runs through,
+  -- So they have these jobs, and each is fine;
+  pub plain_rounds_jobs : AreAllRounds text_job job (round_rule asked) runs → last_reason runs ≡ Fine → map job_of runs ≡ plain_jobs asked job
+  plain_rounds_jobs all fine = (by_turns all fine).jobs
+
+  pub plain_rounds_all_fine : AreAllRounds text_job job (round_rule asked) runs → last_reason runs ≡ Fine → All EndedFine runs
+  plain_rounds_all_fine all fine = (by_turns all fine).fine
+
+  -- each recursion runs through,
   pub plain_rounds_well : AreAllRounds text_job job (round_rule asked) runs → last_reason runs ≡ Fine → RoundsRunWell asked job
   plain_rounds_well all fine = let are = by_turns all fine in subst (All RunsWell) are.jobs (All-map RunsWell job_of runs are.well)
 

@@ -1,5 +1,5 @@
 -- Rounds of a graph without conditions report what one thread does, and are done exactly where that runs through.
-use Rattle.std.proofs.Common.{append-nil, ◌≡◌, ◌≢◌, ◌⊎◌, inl, inr, ℕ, ◌≤◌, Bool, false, List, [], ◌∷◌, ◌++◌, length, Option, Some, None, refl, sym, ap, ◌∙◌, subst, arith}
+use Rattle.std.proofs.Common.{append-nil, ◌≡◌, ◌≢◌, ◌⊎◌, inl, inr, ℕ, ◌≤◌, Bool, false, List, [], ◌∷◌, ◌++◌, length, map, Option, Some, None, refl, sym, ap, ◌∙◌, subst, arith}
 use Rattle.std.specs.Prelude.{All, IsSomeAnd, slice_index_or}
 use Rattle.std.proofs.lemmas.Option.{none-some, same_Some}
 use Rattle.std.proofs.lemmas.List.Elements.{All-nil, All-cons}
@@ -16,25 +16,33 @@ use Rattle.graph_file.specs.PlanText.{PlanText}
 use Rattle.nested_runs.specs.Reasons.{run_reason}
 use Rattle.nested_runs.specs.declared.reasons.Reason.{Reason}
 use Rattle.nested_runs.specs.declared.reasons.Reason.TheVariants.{Fine, Fault, Limit, Stuck}
-use Rattle.run_frame.specs.NestedRule.{job_of}
+use Rattle.run_frame.specs.NestedRule.{job_of, journal_of}
 use Rattle.run_frame.specs.Legal.{IsKept}
 use Rattle.text_ops.specs.Lines.{normal}
 use Rattle.text_tasks.specs.declared.job.TextJob.{TextJob}
 use Rattle.text_tasks.specs.declared.job.TextJob.TheVariants.{Graph, Parts, Pipe}
-use Rattle.text_tasks.specs.JobMeaning.{text_job}
+use Rattle.text_tasks.specs.JobMeaning.{names_of, text_job}
 use Rattle.run_laws.specs.PlainReport.{IsPlanned}
 use Rattle.pipe_laws.specs.TextPipes.{PipesInOrder}
 use Rattle.pipe_laws.proofs.TextInside.{pipes_in_order}
 use Rattle.run_laws.proofs.TextPlain.{same_report}
 use Rattle.flow_run.specs.declared.conclusion.Conclusion.{Conclusion}
+use Rattle.flow_run.specs.declared.conclusion.Conclusion.TheVariants.{Profile}
+use Rattle.flow_run.specs.declared.conclusion.GraphProfile.{GraphProfile}
+use Rattle.flow_run.specs.Profiles.{IsProfileOf, graph_profile_text, plan_run}
+use Rattle.call_status.specs.Reasons.{reason_line}
+use Rattle.profile_table.specs.ProfileText.{profile_text}
+use Rattle.profile_table.specs.Profiles.{Profile as Counted, profile_rows}
 use Rattle.flow_run.specs.Requests.{SourceTexts, CanBeRun, IsHeld, IsRequestedJob, IsTextOf, TextsAre, file_limit, text_limit}
 use Rattle.nested_runs.specs.Rounds.{AreAllRounds, AreFirstRounds}
-use Rattle.flow_run.specs.Answers.{CallEnds, IsAfterRun, RunEnds, TextRun, conclusion_text, output_of, runs_text}
+use Rattle.flow_run.specs.Answers.{CallEnds, IsAfterRun, ProfileEnds, RunEnds, TextRun, conclusion_text, output_of, runs_text}
 use Rattle.flow_run.specs.RoundTexts.{last_reason, round_rule, rounds_text}
 use Rattle.flow_run.specs.Completion.{IsAtHand}
-use Rattle.flow_run.specs.Plainly.{AsksPlainly, AsksRounds, IsReportedPlainly, TookReports}
+use Rattle.flow_run.specs.Plainly.{AsksPlainly, AsksRounds, IsReportedPlainly, TookPlainly}
+use Rattle.flow_run.specs.PlainProfiles.{plain_rows}
 use Rattle.flow_run.specs.PlainRounds.{RoundsRunWell, plain_rounds}
 use Rattle.flow_run.proofs.Completing.{completes, one_plan}
+use Rattle.flow_run.proofs.PlainProfiles.{plain_rows_same}
 use Rattle.flow_run.proofs.PlainRounds.{plain_rounds_fine, plain_rounds_well, plain_rounds_written}
 use Rattle.flow_run.proofs.RoundLemmas.{rounds_planned, run_of_profile}
 
@@ -249,18 +257,62 @@ module _ (held : SourceTexts) (arguments : List (List ℕ)) (status : Status) (r
   no_conclusion file limit workers reports runs concluded (inr (inr (inr (inr (inr (inl (same, none, nothing, never))))))) = nothing
   no_conclusion file limit workers reports runs concluded (inr (inr (inr (inr (inr (inr (memory, none, nothing))))))) = nothing
 
-  -- and what is written, where reports are asked for, are theirs.
+  -- the profile of rounds that are asked for is concluded, where the call is done
+  abbrev IsProfiled : List TextRun → Option Conclusion → Type 0
+  IsProfiled runs concluded = (counts : GraphProfile) × (concluded ≡ Some (Profile counts)) × IsProfileOf (names_of job) runs counts
+
+  profile_of_rounds : (file : List ℕ) (limit : ℕ) (often : AskedRounds) (runs : List TextRun) (concluded : Option Conclusion) → rounds_of (asked_by arguments) ≡ Some (file, limit, often)
+      → ProfileEnds held file limit often status runs concluded → status ≡ Done → IsProfiled runs concluded
+  profile_of_rounds file limit often runs concluded asked (inl stopped) done = absurd (never_done stopped.why (sym stopped.reported ∙ done))
+  profile_of_rounds file limit often runs concluded asked (inr ended) done = elim ended.counted [
+    | inl (memory, none) ↦ absurd (let never : NoMemory ≡ Done = sym memory ∙ done in cc)
+    | inr (counts, is, of_them) ↦ (counts, is, subst (λ (of : TextJob). IsProfileOf (names_of of) runs counts) (asked_job ended.ran.job of_file) of_them)
+  ]
+    where
+      of_file : IsRequestedJob held asks.file asks.limit ended.ran.job
+      of_file =
+          let same : (file, limit, often) ≡ (asks.file, asks.limit, rounds) = same_Some _ _ (sym asked ∙ asked_rounds) in
+          subst (λ (t : List ℕ × ℕ × AskedRounds). IsRequestedJob held t.0 t.1 ended.ran.job) same ended.ran.is
+
+  profiled : (file : List ℕ) (limit workers : ℕ) → asked_by arguments ≡ Some (profile file limit workers rounds) → (runs : List TextRun) (concluded : Option Conclusion) → CallEnds held arguments status runs concluded → status ≡ Done → IsProfiled runs concluded
+  profiled file limit workers profiles runs concluded (inl (other, most, hands, often, journal, asked, ends, none)) done = absurd (no_run_and_profile other file most limit hands workers often rounds journal (sym asked ∙ profiles))
+  profiled file limit workers profiles runs concluded (inr (inl (other, most, hands, often, asked, ends))) done = profile_of_rounds other most often runs concluded (ap rounds_of asked) ends done
+  profiled file limit workers profiles runs concluded (inr (inr (inl (other, name, most, asked, ends, none)))) done = absurd (none-some (file, limit, rounds) (ap rounds_of (sym asked ∙ profiles)))
+  profiled file limit workers profiles runs concluded (inr (inr (inr (inl (other, asked, ends, none))))) done = absurd (none-some (file, limit, rounds) (ap rounds_of (sym asked ∙ profiles)))
+  profiled file limit workers profiles runs concluded (inr (inr (inr (inr (inl (other, asked, ends, none)))))) done = absurd (none-some (file, limit, rounds) (ap rounds_of (sym asked ∙ profiles)))
+  profiled file limit workers profiles runs concluded (inr (inr (inr (inr (inr (inl (same, none, nothing, never))))))) done = absurd (none-some (file, limit, rounds) (ap rounds_of (sym never ∙ profiles)))
+  profiled file limit workers profiles runs concluded (inr (inr (inr (inr (inr (inr (memory, none, nothing))))))) done = absurd (let never : NoMemory ≡ Done = sym memory ∙ done in cc)
+
+  -- the text of a profile of fine rounds
+  profile_same : (runs : List TextRun) (counts : GraphProfile) → IsProfileOf (names_of job) runs counts → AreAllRounds text_job job (round_rule rounds) runs × (last_reason runs ≡ Fine)
+      → graph_profile_text counts ≡ profile_text (plain_rows rounds job) (names_of job) counts.spans
+  profile_same runs counts is all =
+      ap (λ line. profile_text counts.table.rows counts.names counts.spans ++ line) (is.last_line ∙ ap (reason_line (plan_run runs)) all.1)
+      ∙ append-nil _
+      ∙ ap (λ (table : Counted). profile_text table.rows counts.names counts.spans) is.table
+      ∙ ap (λ names. profile_text (profile_rows (length (names_of job)) (map journal_of runs)) names counts.spans) is.names_are
+      ∙ ap (λ rows. profile_text rows (names_of job) counts.spans) (plain_rows_same rounds job runs asks.plain is_planned all.0 all.1)
+
+  -- and what is written is what one thread works out.
   pub plain_written : (runs : List TextRun) (concluded : Option Conclusion) → CallEnds held arguments status runs concluded → status ≡ Done
-      → (before after : Option (List ℕ)) → Took before after (output_of arguments runs concluded) → TookReports (asked_by arguments) job before after
+      → (before after : Option (List ℕ)) → Took before after (output_of arguments runs concluded) → TookPlainly (asked_by arguments) job before after
   plain_written runs concluded ends done before after took = by_request asks.asks
     where
-      by_request : AsksRounds (asked_by arguments) asks.file asks.limit asks.workers rounds → TookReports (asked_by arguments) job before after
-      by_request (inr profiles) = subst (λ asked. TookReports asked job before after) (sym profiles) tt
+      all : AreAllRounds text_job job (round_rule rounds) runs × (last_reason runs ≡ Fine)
+      all = done_rounds runs (ends_as_asked runs concluded ends) done
+
+      by_request : AsksRounds (asked_by arguments) asks.file asks.limit asks.workers rounds → TookPlainly (asked_by arguments) job before after
       by_request (inl reports) =
-          let all = done_rounds runs (ends_as_asked runs concluded ends) done in
           let same : output_of arguments runs concluded ≡ plain_rounds rounds job =
           ap (λ asked. runs_text asked runs ++ conclusion_text concluded) reports
           ∙ ap (λ c. rounds_text rounds false runs ++ conclusion_text c) (no_conclusion asks.file asks.limit asks.workers reports runs concluded ends)
           ∙ append-nil _
           ∙ plain_rounds_written rounds job runs asks.plain is_planned all.0 all.1 in
-          subst (λ asked. TookReports asked job before after) (sym reports) (subst (Took before after) same took)
+          subst (λ asked. TookPlainly asked job before after) (sym reports) (subst (Took before after) same took)
+      by_request (inr profiles) =
+          let is : IsProfiled runs concluded = profiled asks.file asks.limit asks.workers profiles runs concluded ends done in
+          let same : output_of arguments runs concluded ≡ profile_text (plain_rows rounds job) (names_of job) is.0.spans =
+          ap (λ asked. runs_text asked runs ++ conclusion_text concluded) profiles
+          ∙ ap conclusion_text is.1
+          ∙ profile_same runs is.0 is.2 all in
+          subst (λ asked. TookPlainly asked job before after) (sym profiles) (is.0.spans, subst (Took before after) same took)

@@ -13,11 +13,15 @@ use Rattle.graph_plans.specs.declared.ops.Op.TheVariants.{Input, Read, Text as O
 use Rattle.graph_plans.specs.declared.ops.TextOp.{TextOp}
 use Rattle.graph_plans.specs.declared.ops.TextOp.TheVariants.{Head, Skip}
 use Rattle.graph_plans.specs.PlanRows.{PlanRows}
+use Rattle.profile_table.specs.ProfileText.{profile_text}
+use Rattle.profile_table.specs.declared.row.TableRow.{TableRow}
 use Rattle.run_laws.specs.PlainReport.{RunsWell, plain_feedback, plain_next, plain_report}
+use Rattle.run_laws.specs.SmallPlans.{behind_a_circle, worked_job}
 use Rattle.text_tasks.specs.GraphWork.{first_work}
 use Rattle.text_tasks.specs.declared.job.TextJob.{TextJob}
 use Rattle.text_tasks.specs.declared.job.TextJob.TheVariants.{Graph}
-use Rattle.flow_run.specs.Plainly.{EndsPlainly, TookReports}
+use Rattle.flow_run.specs.Plainly.{EndsPlainly, TookPlainly}
+use Rattle.flow_run.specs.PlainProfiles.{plain_row, plain_rows, times_valued}
 use Rattle.flow_run.specs.PlainRounds.{RoundsRunWell, ends_with, jobs_by_turns, plain_jobs, plain_round, plain_rounds}
 use Rattle.flow_run.specs.RoundTexts.{round_line}
 
@@ -145,22 +149,54 @@ known_at n (Some bytes) = get_or bytes n 0
 
 done_with_two_reports : EndsPlainly twice (times 2) first (Some (7 ∷ [])) (Some (7 ∷ two_reports)) (Unit {0}) Done
 unfolding digits
-done_with_two_reports = record { well = λ _. two_run_well; reports = λ _. refl; done = λ _ _. inl refl }
+done_with_two_reports = record { well = λ _. two_run_well; output = λ _. refl; done = λ _ _. inl refl }
 
 second_report_like_the_first : ¬ EndsPlainly twice (times 2) first (Some []) (Some (codes "## round 1\n== k\nb\n## round 2\n== k\nb\n")) (Unit {0}) Done
 unfolding digits
-second_report_like_the_first ends = absurd (omega (arith, ap known_length (ends.reports refl)))
+second_report_like_the_first ends = absurd (omega (arith, ap known_length (ends.output refl)))
 
 reports_exchanged : ¬ EndsPlainly twice (times 2) first (Some []) (Some (codes "## round 1\n== k\na1\nb\n## round 2\n== k\nb\n")) (Unit {0}) Done
 unfolding digits
-reports_exchanged ends = absurd (omega (arith, ap (known_at 16) (ends.reports refl)))
+reports_exchanged ends = absurd (omega (arith, ap (known_at 16) (ends.output refl)))
 
 done_with_a_bad_second : (asked : Option Asked) (job : TextJob) (before after : Option (List ℕ)) → ¬ RunsWell (plain_next job) → ¬ EndsPlainly asked (times 2) job before after (Unit {0}) Done
 done_with_a_bad_second asked job before after badly ends = second_runs_badly job badly (ends.well refl)
 
-done_with_no_round : (job : TextJob) → TookReports (Some (run g 3 1 (times 0) false)) job (Some (7 ∷ [])) (Some (7 ∷ []))
+done_with_no_round : (job : TextJob) → TookPlainly (Some (run g 3 1 (times 0) false)) job (Some (7 ∷ [])) (Some (7 ∷ []))
 done_with_no_round job = refl
 
--- of a profile's bytes nothing is said
-any_profile : (before after : Option (List ℕ)) → EndsPlainly (Some (profile g 3 1 (times 2))) (times 2) first before after (Unit {0}) Done
-any_profile before after = record { well = λ _. two_run_well; reports = λ _. tt; done = λ _ _. inl refl }
+-- ---- profiles
+
+abbrev row : ℕ → TableRow
+row n = record { starts = n; ends = n; faults = 0; drops = 0 }
+
+in_both_rounds : (times_valued (first ∷ second ∷ []) 2 ≡ 2) × (plain_row (first ∷ []) 0 ≡ row 1)
+in_both_rounds = (refl, refl)
+
+rows_of_two : plain_rows (times 2) first ≡ row 2 ∷ row 2 ∷ row 2 ∷ []
+rows_of_two = refl
+
+rows_of_none : plain_rows (times 0) first ≡ row 0 ∷ row 0 ∷ row 0 ∷ []
+rows_of_none = refl
+
+-- the tasks on a circle and the one behind it have no value
+rows_on_a_circle : plain_rows once (worked_job behind_a_circle 1) ≡ row 1 ∷ row 0 ∷ row 0 ∷ row 0 ∷ []
+rows_on_a_circle = refl
+
+abbrev profiled : Option Asked
+profiled = Some (profile g 3 1 (times 2))
+
+-- its text, where the tasks have started so often
+abbrev table : ℕ → ℕ → List ℕ
+table n spans = profile_text (row n ∷ row n ∷ row n ∷ []) (codes "i" ∷ codes "p" ∷ codes "k" ∷ []) spans
+
+done_with_a_table : EndsPlainly profiled (times 2) first (Some (7 ∷ [])) (Some (7 ∷ table 2 6)) (Unit {0}) Done
+done_with_a_table = record { well = λ _. two_run_well; output = λ _. (6, refl); done = λ _ _. inl refl }
+
+table_of_one_round : ¬ TookPlainly profiled first (Some []) (Some (table 1 6))
+unfolding profile_text digits
+table_of_one_round took = absurd (omega (arith, ap (known_at 85) took.1))
+
+-- where a journal is asked for nothing is said
+any_journal : (before after : Option (List ℕ)) → TookPlainly (Some (run g 3 1 (times 2) true)) first before after
+any_journal before after = tt

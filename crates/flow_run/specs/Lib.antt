@@ -6,6 +6,7 @@ pub mod Checks
 pub mod Upgrades
 pub mod RoundTexts
 pub mod PlainRounds
+pub mod PlainProfiles
 pub mod Profiles
 pub mod Watched
 pub mod Answers

@@ -2,12 +2,15 @@
 use Rattle.std.specs.Prelude.{◌≡◌, ◌⊎◌, ℕ, false, List, Option, Some}
 use Rattle.outside_io.specs.Sink.{Took}
 use Rattle.run_frame.specs.NestedRule.{job_of}
+use Rattle.text_tasks.specs.JobMeaning.{names_of}
 use Rattle.text_tasks.specs.declared.job.TextJob.{TextJob}
 use Rattle.call_status.specs.declared.status.Status.{Status}
 use Rattle.call_status.specs.declared.status.Status.TheVariants.{Done, NoMemory}
 use Rattle.command_line.specs.Requests.{Asked, AskedRounds, profile, run}
 use Rattle.run_laws.specs.PlainReport.{HasSameReport, IsPlainJob}
 use Rattle.flow_run.specs.Requests.{SourceTexts, IsRequestedJob}
+use Rattle.profile_table.specs.ProfileText.{profile_text}
+use Rattle.flow_run.specs.PlainProfiles.{plain_rows}
 use Rattle.flow_run.specs.PlainRounds.{RoundsRunWell, plain_rounds}
 use Rattle.flow_run.specs.RoundTexts.{TextRun}
 
@@ -31,14 +34,16 @@ pub record AsksPlainly (held : SourceTexts) (asked : Option Asked) (rounds : Ask
   pub requested : IsRequestedJob held file limit job
   pub plain : IsPlainJob job
 
--- what the output takes where reports are asked for: those of these rounds by one thread
-abbrev pub TookReports : Option Asked → TextJob → Option (List ℕ) → Option (List ℕ) → Type 0
-TookReports (Some (run file limit workers rounds false)) job before after = Took before after (plain_rounds rounds job)
-TookReports asked job before after = Unit {0}
+-- What the output takes that is worked out by one thread: the reports of the rounds, or the table of their profile, which has
+-- some number of spans.
+abbrev pub TookPlainly : Option Asked → TextJob → Option (List ℕ) → Option (List ℕ) → Type 0
+TookPlainly (Some (run file limit workers rounds false)) job before after = Took before after (plain_rounds rounds job)
+TookPlainly (Some (profile file limit workers rounds)) job before after = (spans : ℕ) × Took before after (profile_text (plain_rows rounds job) (names_of job) spans)
+TookPlainly asked job before after = Unit {0}
 
 -- The call is done exactly where the values of each round by one thread run through, unless a read, a write or an allocation
--- fails; and when it is done and reports are asked for, the output has taken those by one thread, and nothing else.
+-- fails; and when it is done the output has taken what one thread works out, and nothing else.
 pub record EndsPlainly (asked : Option Asked) (rounds : AskedRounds) (job : TextJob) (before after : Option (List ℕ)) (NothingFailed : Type 0) (status : Status) : Type 0 where
   pub well : status ≡ Done → RoundsRunWell rounds job
-  pub reports : status ≡ Done → TookReports asked job before after
+  pub output : status ≡ Done → TookPlainly asked job before after
   pub done : RoundsRunWell rounds job → NothingFailed → (status ≡ Done) ⊎ (status ≡ NoMemory)

@@ -103,7 +103,8 @@ pub fn flow_main<F: Texts, S: Sink, N: Sink, R: Threads + Wait + Sync>(
     ensures pipes { All PipesInOrder result.runs }
     // Where rounds of such a plan are asked for, but not their journals, and the source specifies the file and the texts,
     // and holds them within their limits, the call is done exactly where the values of each round by one thread run
-    // through, unless something fails; and if their reports are asked for, the output has taken just those by one thread.
+    // through, unless something fails; and the output has taken just their reports by one thread, or the table of their
+    // profile, which has some number of spans.
     ensures plainly { (rounds : AskedRounds) (job : TextJob)
         → AsksPlainly (F.held texts.old) (asked_by (map string_bytes words.now)) rounds job
         → EndsPlainly (asked_by (map string_bytes words.now)) rounds job

@@ -30,7 +30,7 @@ returns-clause-plainly g c = λ rounds job asks.
     let status = c.answer-status.result.status in
     record {
       well = λ done. plain_done held arguments status rounds job asks _ _ did.ends done;
-      reports = λ done. plain_written held arguments status rounds job asks _ _ did.ends done _ _ (did.output.whole (did.output.done done));
+      output = λ done. plain_written held arguments status rounds job asks _ _ did.ends done _ _ (did.output.whole (did.output.done done));
       done = λ well nothing.
           plain_completes held arguments status rounds job asks _ _ did.ends well
           (no_read_fault g.F.Texts.held g.F.Texts.failed _ _ status did.read nothing.reads)
