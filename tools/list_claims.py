@@ -25,7 +25,6 @@ UNCLAIMED = {
         "report_laws/specs/PlainReport.antt: HasSameReport ReportsAlike ReportsPlainly",
     ),
     "cited only by such a law": (
-        "report_laws/specs/PlainReport.antt: plain_next",
         "run_laws/specs/TextAnswers.antt: IsPlanned",
     ),
     "cited only by the law that text jobs are plain": (

@@ -344,7 +344,7 @@ module _ (plan : PlanRows) (rules : IsPlan plan) where
       subst (λ o. Inside (suc e) plan o) (sym of.1) (sound_by e of.0 of.2 of.4 plainly, nests e of.0 of.2 deep plainly))
 
 -- a job of a plan without conditions is plain to the depth of plans
-plain_to : (job : TextJob) → IsPlanned job → IsPlainJob job → IsPlainTo greatest_depth job
+pub plain_to : (job : TextJob) → IsPlanned job → IsPlainJob job → IsPlainTo greatest_depth job
 plain_to (Graph work) is plain =
     let top : graph_of work ≡ work.plan.top = ap (graph_in work.plan) is.1 in
     let keeps = is.0.graphs 0 work.plan.top (omega arith) in
