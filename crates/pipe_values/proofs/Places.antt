@@ -30,7 +30,7 @@ not_past [] k none less = omega (arith, less)
 not_past (x ∷ xs) zero none less = cc
 not_past (x ∷ xs) (suc k) none less = not_past xs k none (omega (arith, less))
 
--- an item of a list that is the one of its place
+-- where an item of a list gives just one thing, what all give has it
 pub gather_has : {X Y : Type 0} (f : ℕ → X → List Y) (n : ℕ) (xs : List X) (i : ℕ) (x : X) (y : Y) → slice_get xs i ≡ Some x → f (n + i) x ≡ y ∷ [] → (k : ℕ) × (slice_get (gather f n xs) k ≡ Some y)
 gather_has f n [] i x y at is = absurd (none-some _ at)
 gather_has f n (z ∷ xs) zero x y at is =
@@ -43,7 +43,7 @@ gather_has f n (z ∷ xs) (suc i) x y at is =
     let rest = gather_has f (suc n) xs i x y at (ap (λ m. f m x) next ∙ is) in
     (length (f n z) + rest.0, get_behind (f n z) (gather f (suc n) xs) rest.0 ∙ rest.1)
 
--- the place of an item
+-- the item that gave a thing
 pub record GatheredAt {X Y : Type 0} (f : ℕ → X → List Y) (n : ℕ) (xs : List X) (y : Y) : Type 0 where
   pub place : ℕ
   pub item : X

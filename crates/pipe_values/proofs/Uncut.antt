@@ -30,6 +30,7 @@ use Rattle.run_frame.specs.WorkRule.{Work, work_at, work_of}
 use Rattle.pipe_lines.specs.declared.order.Passed.TheVariants.{Token, Stop}
 use Rattle.pipe_lines.specs.Orders.{end_of, passed_at, passed_or}
 use Rattle.pipe_lines.specs.PipeNet.{cell_row}
+use Rattle.text_ops.specs.Values.{value_limit}
 use Rattle.text_tasks.specs.declared.item.Item.{Item}
 use Rattle.text_tasks.specs.Cells.{cell_task, line_input, pipeline_net}
 use Rattle.text_tasks.specs.PipeWork.{IsPipeWork, PipeWork, pipeline_of}
@@ -140,7 +141,7 @@ module _ (work : PipeWork) (is : IsPipeWork work) (limit : ℕ) (values : List (
         by_place None at = absurd (cc)
         by_place (Some k) at = ap Some (same_token k token at)
 
-    short_at : (n token p : ℕ) → slice_get work.order.passed n ≡ Some token → p < pipes → length (cell_at work n token p).text ≤ 16777216
+    short_at : (n token p : ℕ) → slice_get work.order.passed n ≡ Some token → p < pipes → length (cell_at work n token p).text ≤ value_limit
     short_at n token p at in_p = shorts n token at p (omega (arith, in_p, is.op_count))
 
     -- each start of a cell has an answer
