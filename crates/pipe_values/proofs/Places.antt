@@ -1,7 +1,7 @@
 -- Where the starts and the ends of a task stand in a journal.
-use Rattle.std.proofs.Common.{◌≡◌, ℕ, zero, suc, ◌+◌, ◌<◌, ◌≤◌, Bool, true, false, cond, eqb, List, [], ◌∷◌, ◌++◌, length, Option, Some, None, sym, refl, ap, ◌∙◌, subst, arith}
-use Rattle.std.specs.Prelude.{slice_get, ◌==◌}
-use Rattle.std.specs.Option.{option_and_then, option_map_or}
+use Rattle.std.proofs.Common.{◌≡◌, ℕ, zero, suc, ◌+◌, ◌<◌, Bool, true, false, cond, eqb, List, [], ◌∷◌, ◌++◌, length, Option, Some, None, sym, refl, ap, ◌∙◌, arith}
+use Rattle.std.specs.Prelude.{slice_get}
+use Rattle.std.specs.Option.{option_and_then}
 use Rattle.std.proofs.lemmas.Bool.{false≢true}
 use Rattle.std.proofs.lemmas.Bool.Decides.{nat_tests}
 use Rattle.std.proofs.lemmas.Option.{none-some, same_Some, slice_get_within}
@@ -13,7 +13,6 @@ use Rattle.journal_rules.specs.Counts.{start_at}
 use Rattle.run_frame.specs.declared.run.ValueRow.{ValueRow}
 use Rattle.run_frame.specs.LastEnds.{ended_at, ended_task}
 use Rattle.run_frame.specs.Runs.{found_ins, value_at}
-use Rattle.join_words.specs.Ins.{InputValue}
 use Rattle.run_laws.specs.OneThreadValue.{TaskEnd}
 use Rattle.run_laws.specs.Ends.{end_of, gather, is_task}
 use Rattle.run_laws.proofs.Steps.{ends_in, start_of, starts_in}
