@@ -84,7 +84,7 @@ pub total-rows : (a b : ℕ) (f : ℕ → ℕ) → total (a * b) f ≡ total a (
 total-rows zero b f = let none : 0 * b ≡ 0 = omega arith in ap (λ k. total k f) none
 total-rows (suc a) b f = let more : suc a * b ≡ a * b + b = omega arith in ap (λ k. total k f) more ∙ omega (arith, total-append (a * b) b f, total-rows a b f)
 
-pub total-const : (n c : ℕ) → total n (λ i. c) ≡ n * c
+total-const : (n c : ℕ) → total n (λ i. c) ≡ n * c
 total-const zero c = omega arith
 total-const (suc n) c = omega (arith, total-const n c)
 

@@ -1,17 +1,14 @@
 -- What one cell of a pipeline of texts answers: the token with its place and the text that its pipe makes.
-use Rattle.std.proofs.Common.{◌≡◌, ℕ, suc, ◌<◌, ◌≤◌, Bool, true, false, cond, List, [], length, get_or, Option, Some, None, sym, refl, ap, ◌∙◌, arith}
+use Rattle.std.proofs.Common.{◌≡◌, ℕ, suc, ◌<◌, ◌≤◌, Bool, true, false, cond, List, length, get_or, Option, Some, None, sym, refl, ap, ◌∙◌}
 use Rattle.std.specs.Prelude.{nat_le}
 use Rattle.std.specs.Option.{option_and_then}
 use Rattle.std.proofs.lemmas.Option.{none-some, same_Some}
 use Rattle.task_graph.specs.NetRows.{NetRows}
 use Rattle.join_words.specs.Ins.{InputValue, value}
 use Rattle.run_frame.specs.declared.job.Answer.{Answer}
-use Rattle.run_frame.specs.declared.job.Answer.TheVariants.{All as Each, None as NoneOf}
 use Rattle.run_frame.specs.declared.job.Done.TheVariants.{Value}
-use Rattle.graph_plans.specs.declared.pipes.LineOp.{LineOp}
 use Rattle.graph_plans.specs.declared.pipes.LineOp.TheVariants.{Number}
 use Rattle.pipe_lines.specs.declared.order.Passed.{Passed}
-use Rattle.pipe_lines.specs.declared.order.Passed.TheVariants.{Token, Stop}
 use Rattle.pipe_lines.specs.Orders.{passed_at}
 use Rattle.text_ops.specs.Values.{value_limit}
 use Rattle.text_tasks.specs.declared.item.CellItem.{CellItem}
@@ -19,10 +16,10 @@ use Rattle.text_tasks.specs.declared.item.Item.{Item}
 use Rattle.text_tasks.specs.declared.item.Item.TheVariants.{Cell}
 use Rattle.text_tasks.specs.declared.job.TextJob.TheVariants.{Pipe}
 use Rattle.text_tasks.specs.Cells.{cell_task, line_input, next_place, pipe_input, token_in}
-use Rattle.text_tasks.specs.CellMeaning.{enters, goes_on, line_op_value, place_in}
+use Rattle.text_tasks.specs.CellMeaning.{enters, goes_on, place_in}
 use Rattle.text_tasks.specs.FoundTexts.{found_text}
 use Rattle.text_tasks.specs.JobMeaning.{net_of}
-use Rattle.text_tasks.specs.OpMeaning.{OpMeaning, moves_on}
+use Rattle.text_tasks.specs.OpMeaning.{moves_on}
 use Rattle.text_tasks.specs.PipeWork.{IsPipeWork, PipeWork, pipeline_of}
 use Rattle.run_laws.specs.OneThreadValue.{TaskEnd}
 use Rattle.run_laws.specs.TextAnswers.{done_by}

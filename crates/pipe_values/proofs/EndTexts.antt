@@ -6,7 +6,7 @@ use Rattle.std.proofs.lemmas.Bool.{cases_lt, false≢true}
 use Rattle.std.proofs.lemmas.Bool.Decides.{nat_tests}
 use Rattle.std.proofs.lemmas.List.{length-replicate}
 use Rattle.std.proofs.lemmas.Nat.{mod-mul-add}
-use Rattle.std.proofs.lemmas.Option.{none-some, same_Some}
+use Rattle.std.proofs.lemmas.Option.{none-some}
 use Rattle.journal_rules.specs.declared.entry.Entry.{Entry}
 use Rattle.journal_rules.specs.declared.entry.Entry.TheVariants.{Start, End, Fault, Drop}
 use Rattle.journal_rules.specs.Counts.{start_at}
@@ -31,7 +31,7 @@ use Rattle.pipe_laws.proofs.TextCells.{cell_answer}
 use Rattle.pipe_laws.proofs.Through.{some_pipes}
 use Rattle.pipe_values.proofs.CellTexts.{EndsWith, cell_at, text_at}
 use Rattle.pipe_values.proofs.Places.{EndStands, end_among}
-use Rattle.pipe_values.proofs.TextTurns.{FoundAlong, StartOf, ends_so, found_along, same_token, start_of_end}
+use Rattle.pipe_values.proofs.TextTurns.{FoundAlong, StartOf, ends_so, found_along, start_of_end}
 
 same_number : (k : ℕ) → eqb k k ≡ true
 same_number k = grind (arith, nat_tests)

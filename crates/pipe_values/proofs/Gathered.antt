@@ -1,10 +1,9 @@
 -- To what a complete run of a pipeline is gathered in which nothing was cut short: to the texts behind all pipes.
-use Rattle.std.proofs.Common.{◌≡◌, ◌≢◌, ◌⊎◌, inl, inr, ℕ, zero, suc, ◌+◌, ◌*◌, ◌<◌, ◌≤◌, Bool, true, false, cond, List, [], length, get_or, Option, Some, None, sym, refl, ap, ◌∙◌, subst, arith}
-use Rattle.std.specs.Prelude.{slice_get, filter, if◌then◌else◌}
-use Rattle.std.specs.List.{last_or, range_with_len}
+use Rattle.std.proofs.Common.{◌≡◌, ◌≢◌, ◌⊎◌, inl, inr, ℕ, zero, suc, ◌+◌, ◌<◌, ◌≤◌, Bool, true, false, List, [], length, Option, Some, None, sym, refl, ap, ◌∙◌, subst, arith}
+use Rattle.std.specs.Prelude.{slice_get, if◌then◌else◌}
 use Rattle.std.specs.Option.{option_and_then, option_map_or}
 use Rattle.std.proofs.lemmas.Bool.{cases_eq, false≢true}
-use Rattle.std.proofs.lemmas.Option.{slice_get_within, slice_get-get_or}
+use Rattle.std.proofs.lemmas.Option.{slice_get_within}
 use Rattle.journal_rules.specs.declared.entry.Entry.{Entry}
 use Rattle.journal_rules.specs.Complete.{Complete}
 use Rattle.journal_rules.specs.Counts.{start_at}
@@ -25,12 +24,11 @@ use Rattle.run_laws.specs.OneThreadValue.{TaskEnd}
 use Rattle.run_laws.proofs.Steps.{ends_in, starts_in}
 use Rattle.run_laws.proofs.Whole.{all_ended}
 use Rattle.pipe_laws.proofs.CellRuns.{IsCellRun}
-use Rattle.pipe_laws.proofs.CellTurns.{place_at}
 use Rattle.pipe_laws.proofs.Passed.{TurnOf, turn_of}
 use Rattle.pipe_laws.proofs.TextCells.{cell_answer}
 use Rattle.pipe_laws.proofs.Through.{finished, starts_at_place}
 use Rattle.pipe_values.specs.PipeValue.{text_behind, texts_behind}
-use Rattle.pipe_values.proofs.Behind.{AllShort, behind_short, part_of, text_after, texts_are}
+use Rattle.pipe_values.proofs.Behind.{AllShort, behind_short, part_of, texts_are}
 use Rattle.pipe_values.proofs.CellTexts.{EndsWith, cell_at, text_at}
 use Rattle.pipe_values.proofs.EndTexts.{ends_there, last, last_is, text_ended}
 use Rattle.pipe_values.proofs.Places.{EndStands, end_stands, not_past}

@@ -6,4 +6,5 @@ pub mod EndTexts
 pub mod Gathered
 pub mod Uncut
 pub mod Values
+pub mod OfPlans
 pub mod WorkedValues

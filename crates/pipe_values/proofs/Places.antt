@@ -1,7 +1,7 @@
 -- Where the starts and the ends of a task stand in a journal.
-use Rattle.std.proofs.Common.{◌≡◌, ℕ, zero, suc, ◌+◌, ◌<◌, ◌≤◌, Bool, true, false, cond, eqb, List, [], ◌∷◌, ◌++◌, length, Option, Some, None, sym, refl, ap, ◌∙◌, subst, arith}
-use Rattle.std.specs.Prelude.{slice_get, ◌==◌}
-use Rattle.std.specs.Option.{option_and_then, option_map_or}
+use Rattle.std.proofs.Common.{◌≡◌, ℕ, zero, suc, ◌+◌, ◌<◌, Bool, true, false, cond, eqb, List, [], ◌∷◌, ◌++◌, length, Option, Some, None, sym, refl, ap, ◌∙◌, arith}
+use Rattle.std.specs.Prelude.{slice_get}
+use Rattle.std.specs.Option.{option_and_then}
 use Rattle.std.proofs.lemmas.Bool.{false≢true}
 use Rattle.std.proofs.lemmas.Bool.Decides.{nat_tests}
 use Rattle.std.proofs.lemmas.Option.{none-some, same_Some, slice_get_within}
@@ -13,7 +13,6 @@ use Rattle.journal_rules.specs.Counts.{start_at}
 use Rattle.run_frame.specs.declared.run.ValueRow.{ValueRow}
 use Rattle.run_frame.specs.LastEnds.{ended_at, ended_task}
 use Rattle.run_frame.specs.Runs.{found_ins, value_at}
-use Rattle.join_words.specs.Ins.{InputValue}
 use Rattle.run_laws.specs.OneThreadValue.{TaskEnd}
 use Rattle.run_laws.specs.Ends.{end_of, gather, is_task}
 use Rattle.run_laws.proofs.Steps.{ends_in, start_of, starts_in}
@@ -30,7 +29,7 @@ not_past [] k none less = omega (arith, less)
 not_past (x ∷ xs) zero none less = cc
 not_past (x ∷ xs) (suc k) none less = not_past xs k none (omega (arith, less))
 
--- an item of a list that is the one of its place
+-- where an item of a list gives just one thing, what all give has it
 pub gather_has : {X Y : Type 0} (f : ℕ → X → List Y) (n : ℕ) (xs : List X) (i : ℕ) (x : X) (y : Y) → slice_get xs i ≡ Some x → f (n + i) x ≡ y ∷ [] → (k : ℕ) × (slice_get (gather f n xs) k ≡ Some y)
 gather_has f n [] i x y at is = absurd (none-some _ at)
 gather_has f n (z ∷ xs) zero x y at is =
@@ -43,7 +42,7 @@ gather_has f n (z ∷ xs) (suc i) x y at is =
     let rest = gather_has f (suc n) xs i x y at (ap (λ m. f m x) next ∙ is) in
     (length (f n z) + rest.0, get_behind (f n z) (gather f (suc n) xs) rest.0 ∙ rest.1)
 
--- the place of an item
+-- the item that gave a thing
 pub record GatheredAt {X Y : Type 0} (f : ℕ → X → List Y) (n : ℕ) (xs : List X) (y : Y) : Type 0 where
   pub place : ℕ
   pub item : X

@@ -1,8 +1,7 @@
 -- The k-th end of each cell has the token of its turn with the text that the pipes have made of it so far.
-use Rattle.std.proofs.Common.{◌≡◌, ℕ, zero, suc, ◌+◌, ◌*◌, ◌<◌, ◌≤◌, Bool, true, false, not, cond, List, [], ◌∷◌, ◌++◌, length, map, get_or, Option, Some, None, sym, refl, ap, ◌∙◌, subst, arith}
+use Rattle.std.proofs.Common.{◌≡◌, ℕ, zero, suc, ◌<◌, Bool, true, false, not, cond, List, [], ◌∷◌, ◌++◌, length, map, get_or, Option, Some, None, sym, refl, ap, ◌∙◌, subst, arith}
 use Rattle.std.specs.Prelude.{slice_get, filter}
-use Rattle.std.specs.Option.{option_and_then, option_map, option_map_or}
-use Rattle.std.specs.List.{AllZip}
+use Rattle.std.specs.Option.{option_map, option_map_or}
 use Rattle.std.proofs.lemmas.Bool.{false≢true}
 use Rattle.std.proofs.lemmas.Option.{none-some, same_Some, slice_get_within, slice_get-get_or, slice_get-map}
 use Rattle.task_graph.specs.NetRows.{NetRows}
@@ -13,7 +12,6 @@ use Rattle.journal_rules.specs.Counts.{start_at}
 use Rattle.join_words.specs.Ins.{InputValue, value, first}
 use Rattle.run_frame.specs.declared.job.Answer.TheVariants.{All as Each}
 use Rattle.run_frame.specs.declared.run.ValueRow.{ValueRow}
-use Rattle.graph_plans.specs.declared.pipes.LineOp.TheVariants.{Number}
 use Rattle.pipe_lines.specs.declared.order.Passed.{Passed}
 use Rattle.pipe_lines.specs.declared.order.Passed.TheVariants.{Token, Stop, Unmet}
 use Rattle.pipe_lines.specs.Orders.{passed_at}
@@ -21,7 +19,7 @@ use Rattle.text_tasks.specs.declared.item.Item.{Item}
 use Rattle.text_tasks.specs.declared.item.Item.TheVariants.{Cell}
 use Rattle.text_tasks.specs.Cells.{Pipeline, along_pipe, cell_task, line_input, pipeline_net}
 use Rattle.text_tasks.specs.PipeWork.{IsPipeWork, PipeWork, pipeline_of}
-use Rattle.run_laws.specs.OneThreadValue.{OneAnswer, TaskEnd, begun, source_of, tokens}
+use Rattle.run_laws.specs.OneThreadValue.{OneAnswer, TaskEnd, begun, tokens}
 use Rattle.run_laws.proofs.Legally.{placed_along}
 use Rattle.run_laws.proofs.Phases.{ends_few}
 use Rattle.run_laws.proofs.Pipes.{row_at}
@@ -32,7 +30,7 @@ use Rattle.pipe_laws.proofs.CellTurns.{end_signalled, place_at, signals}
 use Rattle.pipe_laws.proofs.Edges.{ComesFrom, EdgeInto, GoesOn, along_line_into, edges_into, goes_round, goes_up, has_along_line, source_is}
 use Rattle.pipe_laws.proofs.Inputs.{InputAt, input_at}
 use Rattle.pipe_laws.proofs.TextCells.{cell_answer}
-use Rattle.pipe_values.proofs.CellTexts.{EndsWith, cell_at, first_is, later_is, moved, text_at}
+use Rattle.pipe_values.proofs.CellTexts.{EndsWith, cell_at, first_is, later_is, moved}
 
 -- a token is one
 pub same_token : (a b : ℕ) → Token a ≡ Token b → a ≡ b

@@ -1,11 +1,10 @@
 -- A complete run of a pipeline is fine where no token is left and no text on the way is too long.
-use Rattle.std.proofs.Common.{◌≡◌, ◌≢◌, ◌⊎◌, inl, inr, ℕ, zero, suc, ◌+◌, ◌*◌, ◌<◌, ◌≤◌, Bool, true, false, ◌&&◌, cond, eqb, List, [], ◌∷◌, ◌++◌, length, replicate, get_or, Option, Some, None, sym, refl, ap, ◌∙◌, subst, arith}
+use Rattle.std.proofs.Common.{◌≡◌, ◌≢◌, ◌⊎◌, inl, inr, ℕ, zero, suc, ◌+◌, ◌*◌, ◌<◌, ◌≤◌, Bool, true, false, ◌&&◌, List, [], ◌∷◌, ◌++◌, length, replicate, Option, Some, None, sym, refl, ap, ◌∙◌, subst, arith}
 use Rattle.std.specs.Prelude.{count_by, slice_get, IsSomeAnd, ◌==◌}
 use Rattle.std.specs.List.{list_any}
 use Rattle.std.specs.Option.{option_and_then, option_map_or}
-use Rattle.std.proofs.lemmas.Bool.{cases_eq, false≢true}
+use Rattle.std.proofs.lemmas.Bool.{cases_eq}
 use Rattle.std.proofs.lemmas.List.{length-replicate}
-use Rattle.std.proofs.lemmas.Option.{none-some, same_Some}
 use Rattle.task_graph.specs.NetRows.{NetRows}
 use Rattle.task_graph.specs.declared.net.TaskRow.{TaskRow}
 use Rattle.journal_rules.specs.declared.entry.Cause.{Cause}
@@ -14,11 +13,9 @@ use Rattle.journal_rules.specs.declared.entry.DropWhy.{DropWhy}
 use Rattle.journal_rules.specs.declared.entry.Part.{Part}
 use Rattle.journal_rules.specs.declared.entry.Entry.{Entry}
 use Rattle.journal_rules.specs.declared.entry.Entry.TheVariants.{Start, End, Fault, Drop}
-use Rattle.journal_rules.specs.declared.entry.Why.{Why}
 use Rattle.journal_rules.specs.Complete.{Complete, is_limited, is_limit_why}
-use Rattle.journal_rules.specs.Counts.{is_start, is_strong, start_at, started, starts, used, uses}
+use Rattle.journal_rules.specs.Counts.{is_start, is_strong, started, starts, used, uses}
 use Rattle.journal_rules.specs.Entries.{EachAfter, EachAfterThese}
-use Rattle.journal_rules.specs.SemaphoreRule.{puts, takes}
 use Rattle.journal_rules.specs.ShapeLegal.{MayFollow, ShapeLegal}
 use Rattle.journal_rules.proofs.Snoc.{count_by_push}
 use Rattle.journal_rules.proofs.Tallying.{count_by_push_no}
@@ -26,14 +23,14 @@ use Rattle.join_words.specs.Ins.{InputValue}
 use Rattle.run_frame.specs.declared.job.Answer.TheVariants.{All as Each, None as NoneOf}
 use Rattle.run_frame.specs.declared.run.ValueRow.{ValueRow}
 use Rattle.run_frame.specs.Runs.{IsFine, found_ins}
-use Rattle.run_frame.specs.WorkRule.{Work, work_at, work_of}
+use Rattle.run_frame.specs.WorkRule.{Work, work_of}
 use Rattle.pipe_lines.specs.declared.order.Passed.TheVariants.{Token, Stop}
 use Rattle.pipe_lines.specs.Orders.{end_of, passed_at, passed_or}
 use Rattle.pipe_lines.specs.PipeNet.{cell_row}
+use Rattle.text_ops.specs.Values.{value_limit}
 use Rattle.text_tasks.specs.declared.item.Item.{Item}
 use Rattle.text_tasks.specs.Cells.{cell_task, line_input, pipeline_net}
 use Rattle.text_tasks.specs.PipeWork.{IsPipeWork, PipeWork, pipeline_of}
-use Rattle.run_laws.specs.Graphs.{Returns}
 use Rattle.run_laws.specs.Rings.{IsRinged}
 use Rattle.run_laws.proofs.Along.{along, both, each_front}
 use Rattle.run_laws.proofs.Faults.{IsOneFault, is_own_fault, own_why}
@@ -46,7 +43,7 @@ use Rattle.run_laws.proofs.Tasks.{in_tasks, start_in}
 use Rattle.run_laws.proofs.Units.{no_unit_trouble}
 use Rattle.pipe_laws.proofs.CellRuns.{IsCellRun, all_starts}
 use Rattle.pipe_laws.proofs.CellTurns.{place_at}
-use Rattle.pipe_laws.proofs.Counted.{all_places, one_if, places_of, total, total-add, total-const, total-less, total-one, total-rows, total-same, uses_few}
+use Rattle.pipe_laws.proofs.Counted.{all_places, one_if, places_of, total, total-add, total-less, total-one, total-rows, total-same, uses_few}
 use Rattle.pipe_laws.proofs.TextCells.{cell_answer}
 use Rattle.pipe_laws.proofs.Through.{some_pipes}
 use Rattle.pipe_values.proofs.Behind.{AllShort, part_of}
@@ -140,7 +137,7 @@ module _ (work : PipeWork) (is : IsPipeWork work) (limit : ℕ) (values : List (
         by_place None at = absurd (cc)
         by_place (Some k) at = ap Some (same_token k token at)
 
-    short_at : (n token p : ℕ) → slice_get work.order.passed n ≡ Some token → p < pipes → length (cell_at work n token p).text ≤ 16777216
+    short_at : (n token p : ℕ) → slice_get work.order.passed n ≡ Some token → p < pipes → length (cell_at work n token p).text ≤ value_limit
     short_at n token p at in_p = shorts n token at p (omega (arith, in_p, is.op_count))
 
     -- each start of a cell has an answer

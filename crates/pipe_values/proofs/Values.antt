@@ -1,25 +1,18 @@
 -- Each kept run of a pipeline comes to its value.
-use Rattle.std.proofs.Common.{◌≡◌, ◌≢◌, ℕ, zero, suc, ◌+◌, ◌*◌, ◌<◌, ◌≤◌, Bool, true, false, cond, List, [], length, Option, Some, None, sym, refl, ap, ◌∙◌, subst, arith}
+use Rattle.std.proofs.Common.{◌≡◌, ℕ, zero, suc, ◌+◌, ◌*◌, ◌≤◌, cond, List, [], length, Option, Some, None, sym, refl, ap, ◌∙◌, subst, arith}
 use Rattle.std.specs.Prelude.{slice_get, is_none}
 use Rattle.std.specs.Option.{option_and_then}
-use Rattle.std.proofs.lemmas.Option.{none-some}
-use Rattle.journal_rules.specs.declared.entry.Entry.{Entry}
-use Rattle.journal_rules.specs.declared.entry.Why.{Why}
 use Rattle.journal_rules.specs.Complete.{Complete}
 use Rattle.journal_rules.specs.Entries.{EachAfter}
 use Rattle.run_frame.specs.declared.run.FrameRun.{FrameRun}
-use Rattle.run_frame.specs.declared.run.ValueRow.{ValueRow}
 use Rattle.run_frame.specs.Legal.{IsKept, LegalJournal}
 use Rattle.run_frame.specs.NestedRule.{job_of, journal_of}
 use Rattle.run_frame.specs.Runs.{IsFine, values_of}
-use Rattle.text_ops.specs.Values.{value_limit}
 use Rattle.text_tasks.specs.declared.item.Item.{Item}
-use Rattle.text_tasks.specs.declared.item.Item.TheVariants.{Text}
 use Rattle.text_tasks.specs.declared.job.TextJob.{TextJob}
 use Rattle.text_tasks.specs.declared.job.TextJob.TheVariants.{Pipe}
 use Rattle.text_tasks.specs.Cells.{pipeline_net}
-use Rattle.text_tasks.specs.JobMeaning.{FaultsLong, limit_of, net_of, text_gathered, text_job}
-use Rattle.text_tasks.specs.PipeEnds.{pipe_text}
+use Rattle.text_tasks.specs.JobMeaning.{limit_of, net_of, text_gathered, text_job}
 use Rattle.text_tasks.specs.PipeWork.{IsPipeWork, PipeWork, pipeline_of}
 use Rattle.run_laws.specs.OneAnswer.{AllowsOne}
 use Rattle.run_laws.specs.PlainJobs.{LeadsTo}
