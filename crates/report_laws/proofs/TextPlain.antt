@@ -49,7 +49,6 @@ use Rattle.text_tasks.specs.Items.{item_text}
 use Rattle.text_tasks.specs.JobMeaning.{AnswersAs, FaultsAs, FaultsLong, JobAnswers, JobFollows, feedback_of, gathered_text, job_plan, net_of, names_of, task_meaning, text_gathered, text_job}
 use Rattle.text_tasks.specs.PipeWork.{IsPipeWork, pipe_work}
 use Rattle.pipe_lines.specs.DeferRows.{token_limit}
-use Rattle.pipe_lines.specs.PassOrder.{pass_order}
 use Rattle.text_tasks.specs.Sinks.{is_sink, last_sink, task_values}
 use Rattle.text_tasks.specs.OpMeaning.{OpMeaning, hands_over, moves_on, never_passes, op_meaning, runs, text_op_value, too_wide}
 use Rattle.call_status.specs.Reasons.{reason_line}
@@ -64,7 +63,8 @@ use Rattle.run_laws.proofs.Depth.{runs_plainly}
 use Rattle.run_laws.proofs.LastEnds.{flat_map_below}
 use Rattle.run_laws.proofs.TextAnswers.{fault_at_task, gather_long, gather_value, inner_at_task, item_meets, module_runs, parts_none, spread_runs, value_at_task}
 use Rattle.pipe_laws.proofs.TextCells.{cell_runs}
-use Rattle.pipe_laws.proofs.TextInside.{le_of, passes_few, pipe_of_plan, pipe_runs}
+use Rattle.pipe_laws.proofs.TextInside.{le_of, pipe_of_plan, pipe_runs}
+use Rattle.pipe_values.proofs.OfPlans.{few_pass}
 use Rattle.pipe_values.proofs.Values.{comes_to_value}
 
 -- ---- nets without conditions
@@ -142,10 +142,7 @@ module _ (work : GraphWork) (found : List (InputValue Item)) (inner : TextJob) w
       let count : ℕ = part_count plan.chunk text in
       let is = pipe_runs (nat_le count token_limit) (pipe_work plan text) count inner same in
       let of : IsPipeWork (pipe_work plan text) = pipe_of_plan plan text pipes.0 pipes.1 (le_of count token_limit is.1) in
-      let parts : length (line_parts plan.chunk text) ≡ count = length-map-range_with_len (line_part plan.chunk text) 0 count in
-      let passed : length (pass_order count plan.defers) ≤ length {A = ℕ} [] + count = passes_few count plan.defers count [] in
-      let few : length (pass_order count plan.defers) ≤ length (line_parts plan.chunk text) = omega (arith, passed, parts) in
-      record { below = d; less = refl; plain = subst (IsPlainTo d) (sym is.0) (of, few) }
+      record { below = d; less = refl; plain = subst (IsPlainTo d) (sym is.0) (of, few_pass plan text) }
 
   op_none : (op : Op) → OpensNone op → op_meaning work found op ≡ runs inner → ⊥
   op_none Input none same = cc
