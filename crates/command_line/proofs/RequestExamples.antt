@@ -1,14 +1,14 @@
 -- Command lines and what they ask for, computed.
 use Rattle.std.proofs.Common.{◌≡◌, refl, arith, codes, Some, None, [], ◌∷◌, List, ℕ, true, false}
 use Rattle.std.specs.Borrow.{Bor}
-use Rattle.command_line.specs.declared.request.Request.TheVariants.{Run, Profile, Judge, Check, Upgrade}
+use Rattle.command_line.specs.declared.request.Request.TheVariants.{Run, Profile, Judge, Check, Upgrade, Generate}
 use Rattle.command_line.specs.declared.options.RunOptions.{RunOptions}
 use Rattle.command_line.specs.declared.rounds.Rounds.TheVariants.{Once, Times, Until}
 use Rattle.command_line.specs.Asked.{asked}
 use Rattle.command_line.specs.Rounds.{asked_rounds}
 use Rattle.clap.proofs.OnLiterals.{clap_on_literals}
 use Rattle.command_line.specs.Numbers.{number_in}
-use Rattle.command_line.specs.Requests.{once, times, until, most_rounds, run, profile, judge, check, upgrade, asked_by, limit_by, workers_by, rounds_by, runs_app, run_app, profile_app, judge_app, check_app, upgrade_app}
+use Rattle.command_line.specs.Requests.{once, times, until, most_rounds, run, profile, judge, check, upgrade, generate, asked_by, limit_by, workers_by, rounds_by, runs_app, run_app, profile_app, judge_app, check_app, upgrade_app, generate_app}
 
 -- Numbers have 1 to 7 digits and nothing else, and are in their range.
 least : number_in 1 1000000 (codes "1") ≡ Some 1
@@ -298,6 +298,39 @@ help_on_an_upgrade : asked_by (codes "upgrade" ∷ codes "--help" ∷ []) ≡ No
 unfolding clap_on_literals runs_app run_app profile_app judge_app check_app upgrade_app
 help_on_an_upgrade = refl
 
+-- A generated graph, of 1 to 900 layers, and its workers.
+generated : asked_by (codes "generate" ∷ codes "900" ∷ []) ≡ Some (generate 900 4)
+unfolding clap_on_literals runs_app run_app profile_app judge_app check_app upgrade_app generate_app
+generated = refl
+
+generated_by_one : asked_by (codes "generate" ∷ codes "1" ∷ codes "--workers" ∷ codes "1" ∷ []) ≡ Some (generate 1 1)
+unfolding clap_on_literals runs_app run_app profile_app judge_app check_app upgrade_app generate_app
+generated_by_one = refl
+
+no_layers : asked_by (codes "generate" ∷ codes "0" ∷ []) ≡ None
+unfolding clap_on_literals runs_app run_app profile_app judge_app check_app upgrade_app generate_app
+no_layers = refl
+
+past_the_layers : asked_by (codes "generate" ∷ codes "901" ∷ []) ≡ None
+unfolding clap_on_literals runs_app run_app profile_app judge_app check_app upgrade_app generate_app
+past_the_layers = refl
+
+nothing_to_generate : asked_by (codes "generate" ∷ []) ≡ None
+unfolding clap_on_literals runs_app run_app profile_app judge_app check_app upgrade_app generate_app
+nothing_to_generate = refl
+
+two_numbers_to_generate : asked_by (codes "generate" ∷ codes "1" ∷ codes "2" ∷ []) ≡ None
+unfolding clap_on_literals runs_app run_app profile_app judge_app check_app upgrade_app generate_app
+two_numbers_to_generate = refl
+
+past_the_workers_of_a_generated_graph : asked_by (codes "generate" ∷ codes "1" ∷ codes "--workers" ∷ codes "17" ∷ []) ≡ None
+unfolding clap_on_literals runs_app run_app profile_app judge_app check_app upgrade_app generate_app
+past_the_workers_of_a_generated_graph = refl
+
+limit_of_a_generated_graph : asked_by (codes "generate" ∷ codes "1" ∷ codes "--limit" ∷ codes "5" ∷ []) ≡ None
+unfolding clap_on_literals runs_app run_app profile_app judge_app check_app upgrade_app generate_app
+limit_of_a_generated_graph = refl
+
 another_spelling : asked_by (codes "Check" ∷ codes "g" ∷ []) ≡ None
 another_spelling = refl
 
@@ -325,3 +358,6 @@ module _ (file journal word : Bor (List ℕ)) where
 
   asks_for_an_upgrade : asked (Upgrade (record { file = file })) ≡ upgrade file.now
   asks_for_an_upgrade = refl
+
+  asks_for_a_generated_graph : asked (Generate (record { layers = 3; workers = 2; within_layers = (omega arith, omega arith); some_workers = (omega arith, omega arith) })) ≡ generate 3 2
+  asks_for_a_generated_graph = refl

@@ -6,7 +6,7 @@ use Rattle.clap.specs.Walk.{Row, Rule}
 use Rattle.clap.specs.Words.{App, Kinds, first_of, matches_of, fault_of, new_app, new_rule, with_rule}
 use Rattle.clap.specs.declared.builder.action.ArgAction.TheVariants.{SetTrue}
 use Rattle.clap.specs.Simple.{on_top}
-use Rattle.command_line.specs.declared.numbers.TheConstants.{DEFAULT_LIMIT, DEFAULT_WORKERS, GREATEST_LIMIT, GREATEST_TIMES, GREATEST_WORKERS}
+use Rattle.command_line.specs.declared.numbers.TheConstants.{DEFAULT_LIMIT, DEFAULT_WORKERS, GREATEST_LAYERS, GREATEST_LIMIT, GREATEST_TIMES, GREATEST_WORKERS}
 use Rattle.command_line.specs.Numbers.{number_in}
 
 -- How often a graph is run: once, where nothing is said; so many times; or until a round passes on a line in which a word
@@ -24,14 +24,15 @@ most_rounds (until word) = GREATEST_TIMES
 
 -- What is asked for: to run the graph in a file, with at most so many starts a round, by so many workers and so often, and
 -- to write the journals in place of the reports or not; to run it so and count what each task did; to judge the journal in
--- another file, which may have so many starts; to find how the graph in a file can go wrong; or to write the graph in a file
--- as a file of the newest version.
+-- another file, which may have so many starts; to find how the graph in a file can go wrong; to write the graph in a file
+-- as a file of the newest version; or to run a generated graph of so many layers, by so many workers.
 pub data Asked : Type 0 where
   run : List ℕ → ℕ → ℕ → AskedRounds → Bool → Asked
   profile : List ℕ → ℕ → ℕ → AskedRounds → Asked
   judge : List ℕ → List ℕ → ℕ → Asked
   check : List ℕ → Asked
   upgrade : List ℕ → Asked
+  generate : ℕ → ℕ → Asked
 
 -- a command of this name that reads no name of a program, and of itself has no flag
 abbrev pub command_named : List ℕ → App
@@ -70,6 +71,10 @@ check_app = with_rule (command_named (codes "check")) (required (codes "file"))
 -- `upgrade FILE`
 unfoldable pub upgrade_app : App
 upgrade_app = with_rule (command_named (codes "upgrade")) (required (codes "file"))
+
+-- `generate N [--workers N]`
+unfoldable pub generate_app : App
+generate_app = with_rule (with_rule (command_named (codes "generate")) (required (codes "layers"))) (option (codes "workers"))
 
 -- what a command finds among the arguments, where it finds no fault with them
 abbrev pub rows_without : Kinds → List Row → Option (List Row)
@@ -127,6 +132,11 @@ check_in rows = option_map check (first_of (codes "file") rows)
 abbrev pub upgrade_in : List Row → Option Asked
 upgrade_in rows = option_map upgrade (first_of (codes "file") rows)
 
+-- the generated graph that is asked for, of 1 to 900 layers
+abbrev pub generate_in : List Row → Option Asked
+generate_in rows =
+    option_and_then (λ layers. option_map (generate layers) (workers_by (first_of (codes "workers") rows))) (option_and_then (number_in 1 GREATEST_LAYERS) (first_of (codes "layers") rows))
+
 -- What a command line asks for: its first argument names the command that reads the others.
 abbrev pub asked_by : List (List ℕ) → Option Asked
 asked_by [] = None
@@ -134,4 +144,5 @@ asked_by (command ∷ arguments) = if bytes_eq command (codes "run") then option
     else (if bytes_eq command (codes "profile") then option_and_then profile_in (rows_in profile_app arguments)
     else (if bytes_eq command (codes "judge") then option_and_then judge_in (rows_in judge_app arguments)
     else (if bytes_eq command (codes "check") then option_and_then check_in (rows_in check_app arguments)
-    else (if bytes_eq command (codes "upgrade") then option_and_then upgrade_in (rows_in upgrade_app arguments) else None))))
+    else (if bytes_eq command (codes "upgrade") then option_and_then upgrade_in (rows_in upgrade_app arguments)
+    else (if bytes_eq command (codes "generate") then option_and_then generate_in (rows_in generate_app arguments) else None)))))

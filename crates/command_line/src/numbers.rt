@@ -20,6 +20,9 @@ pub const DEFAULT_WORKERS: u32 = 4;
 /// The greatest number of rounds: of those that are asked for, and of those that are run until a word occurs.
 pub const GREATEST_TIMES: u64 = 1_000;
 
+/// The greatest number of layers of a generated graph.
+pub const GREATEST_LAYERS: u64 = 900;
+
 /// The limit that an option's value asks for; without the option, the default.
 pub(crate) fn limit_of(text: Option<&str>) -> Option<u64>
     ensures value { result ≡ limit_by (option_map (λ t. t.now) text.entry) }

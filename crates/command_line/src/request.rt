@@ -5,6 +5,7 @@ ghost use Rattle.command_line.specs.Requests.{asked_by};
 ghost use Rattle.command_line.specs.Asked.{asked};
 
 use super::check::{Check, read_check};
+use super::generate::{Generate, read_generate};
 use super::judge::{Judge, read_judge};
 use super::profile::{Profile, read_profile};
 use super::run::{Run, read_run};
@@ -39,6 +40,7 @@ pub enum Request<'w> {
     Judge(Judge<'w>),
     Check(Check<'w>),
     Upgrade(Upgrade<'w>),
+    Generate(Generate),
 }
 
 /// What the arguments after the program's own name ask for. `Refused` comes exactly where they ask for nothing
@@ -63,6 +65,7 @@ pub fn read_arguments<'w>(
         "judge" => Ok(Request::Judge(read_judge(alloc, rest)?)),
         "check" => Ok(Request::Check(read_check(alloc, rest)?)),
         "upgrade" => Ok(Request::Upgrade(read_upgrade(alloc, rest)?)),
+        "generate" => Ok(Request::Generate(read_generate(alloc, rest)?)),
         _ => Err(ArgumentsError::Refused),
     }
 }
