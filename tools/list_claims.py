@@ -22,10 +22,10 @@ UNCLAIMED = {
         "flow_run/specs/Plainly.antt: IsReportedPlainly",
         "run_laws/specs/JudgeLaw.antt: IsJudgedComplete JudgesKept",
         "run_laws/specs/PlainLaws.antt: IsPlainRun RunsPlainly",
-        "run_laws/specs/PlainReport.antt: HasSameReport ReportsAlike ReportsPlainly",
+        "report_laws/specs/PlainReport.antt: HasSameReport ReportsAlike ReportsPlainly",
     ),
     "cited only by such a law": (
-        "run_laws/specs/PlainReport.antt: IsPlanned plain_next",
+        "run_laws/specs/TextAnswers.antt: IsPlanned",
     ),
     "cited only by the law that text jobs are plain": (
         "run_laws/specs/PlainJobs.antt: IsGraphJob IsInside IsPlainly LeadsTo",

@@ -9,6 +9,8 @@ mod RoundLemmas
 mod RoundReports
 pub mod CheckLemmas
 pub mod Completing
+mod PlainRounds
+mod PlainProfiles
 pub mod Plainly
 pub mod Upgrading
 pub mod CallExamples
@@ -22,3 +24,4 @@ pub mod ProfileExamples
 pub mod WatchExamples
 pub mod ReadExamples
 pub mod PlainExamples
+pub mod RoundPlainExamples

@@ -24,7 +24,7 @@ use Rattle.run_frame.specs.Runs.{values_of}
 use Rattle.nested_runs.specs.Reasons.{run_reason}
 use Rattle.nested_runs.specs.declared.reasons.Reason.TheVariants.{Stuck}
 use Rattle.call_status.specs.Reasons.{reason_line}
-use Rattle.run_laws.specs.Output.{report, report_of, outcome}
+use Rattle.report_laws.specs.Output.{report, report_of, outcome}
 
 abbrev task : TaskRow
 task = record { shape = Plain; takes = []; puts = [] }

@@ -16,7 +16,7 @@ use Rattle.text_tasks.specs.declared.job.TextJob.{TextJob}
 use Rattle.text_tasks.specs.JobMeaning.{net_of, names_of}
 use Rattle.run_frame.specs.LastEnds.{last_end}
 use Rattle.run_frame.proofs.EndsLemmas.{counting_more}
-use Rattle.run_laws.specs.Output.{task_part, task_report}
+use Rattle.report_laws.specs.Output.{task_part, task_report}
 
 -- The texts of one number more.
 pub texts_more : (text : ℕ → List ℕ) (n : ℕ) → flat_map text (range_with_len 0 (n + 1)) ≡ flat_map text (range_with_len 0 n) ++ text n

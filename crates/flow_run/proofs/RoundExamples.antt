@@ -15,7 +15,7 @@ use Rattle.nested_runs.specs.declared.reasons.Reason.TheVariants as reason
 use Rattle.run_frame.specs.Legal.{IsKept}
 use Rattle.run_frame.specs.NestedRule.{job_of, journal_of}
 use Rattle.run_frame.specs.Runs.{IsFine}
-use Rattle.run_laws.specs.Output.{report_of}
+use Rattle.report_laws.specs.Output.{report_of}
 use Rattle.text_ops.specs.TextMeaning.{has_word}
 use Rattle.text_tasks.specs.GraphWork.{GraphWork}
 use Rattle.text_tasks.specs.PartsWork.{PartsWork}

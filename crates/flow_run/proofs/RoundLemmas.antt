@@ -17,7 +17,7 @@ use Rattle.text_tasks.specs.declared.job.TextJob.{TextJob}
 use Rattle.text_tasks.specs.declared.job.TextJob.TheVariants.{Graph, Parts, Pipe}
 use Rattle.text_tasks.specs.JobMeaning.{names_of, text_job}
 use Rattle.profile_table.proofs.ProfileLemmas.{row_for_each_task}
-use Rattle.run_laws.specs.PlainReport.{IsPlanned}
+use Rattle.run_laws.specs.TextAnswers.{IsPlanned}
 use Rattle.flow_run.specs.Requests.{SourceTexts, IsRequestedJob}
 use Rattle.flow_run.specs.declared.conclusion.Conclusion.{Conclusion}
 use Rattle.flow_run.specs.declared.conclusion.Conclusion.TheVariants.{Profile}
@@ -27,22 +27,27 @@ use Rattle.flow_run.specs.Answers.{IsAfterRun, JobEnds, ProfileEnds, RanProfile,
 use Rattle.flow_run.specs.RoundTexts.{TextRun, last_reason, round_rule}
 
 -- what follows a run of a plan's top graph is of that graph
-follows_planned : (job next : TextJob) (run : TextRun) → text_job.follows job run next → IsPlanned job → IsPlanned next
+pub follows_planned : (job next : TextJob) (run : TextRun) → text_job.follows job run next → IsPlanned job → IsPlanned next
 follows_planned (Graph work) next run follows planned = subst IsPlanned (sym follows) planned
 follows_planned (Parts work) next run follows planned = absurd follows
 follows_planned (Pipe work) next run follows planned = absurd follows
 
--- So each round of a plan's job is of its top graph.
-pub rounds_planned : (job : TextJob) (runs : List TextRun) → AreRounds text_job job runs → IsPlanned job → All (λ run. IsPlanned (job_of run)) runs
-rounds_planned job runs are planned zero d below =
+-- What holds of a job, and of each that follows a run of one of which it holds, holds of the job of each round.
+pub rounds_keep : (Holds : TextJob → Type 0) → ((job next : TextJob) (run : TextRun) → text_job.follows job run next → Holds job → Holds next) → (job : TextJob) (runs : List TextRun) → AreRounds text_job job runs
+    → Holds job → All (λ run. Holds (job_of run)) runs
+rounds_keep Holds follows job runs are holds zero d below =
     let first : job_of (get_or runs 0 d) ≡ job = subst (λ (o : Option TextRun). IfSome o (λ run. job_of run ≡ job)) (slice_get-get_or runs 0 d below) are.first in
-    subst IsPlanned (sym first) planned
-rounds_planned job runs are planned (suc k) d below =
+    subst Holds (sym first) holds
+rounds_keep Holds follows job runs are holds (suc k) d below =
     let before : k < length runs = omega (arith, below) in
     let after : IsNextRound text_job (get_or runs k d) (get_or runs (suc k) d) =
     subst (λ (o : Option TextRun). IfSome o (IsNextRound text_job (get_or runs k d))) (slice_get-get_or runs (suc k) d below)
     (subst (λ (o : Option TextRun). IfSome o (λ last. IfSome (slice_get runs (suc k)) (IsNextRound text_job last))) (slice_get-get_or runs k d before) (are.next k)) in
-    follows_planned (job_of (get_or runs k d)) (job_of (get_or runs (suc k) d)) (get_or runs k d) after.follows (rounds_planned job runs are planned k d before)
+    follows (job_of (get_or runs k d)) (job_of (get_or runs (suc k) d)) (get_or runs k d) after.follows (rounds_keep Holds follows job runs are holds k d before)
+
+-- So each round of a plan's job is of its top graph.
+pub rounds_planned : (job : TextJob) (runs : List TextRun) → AreRounds text_job job runs → IsPlanned job → All (λ run. IsPlanned (job_of run)) runs
+rounds_planned = rounds_keep IsPlanned follows_planned
 
 -- none are the first rounds of any job
 pub no_round : (job : TextJob) (rule : RoundRule TextJob Item) → AreFirstRounds text_job job rule []

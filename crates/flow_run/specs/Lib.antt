@@ -5,6 +5,8 @@ pub mod PlanFiles
 pub mod Checks
 pub mod Upgrades
 pub mod RoundTexts
+pub mod PlainRounds
+pub mod PlainProfiles
 pub mod Profiles
 pub mod Watched
 pub mod Answers

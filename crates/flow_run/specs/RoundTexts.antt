@@ -15,7 +15,7 @@ use Rattle.text_ops.specs.TextMeaning.{has_word}
 use Rattle.text_tasks.specs.declared.item.Item.{Item}
 use Rattle.text_tasks.specs.declared.job.TextJob.{TextJob}
 use Rattle.text_tasks.specs.JobMeaning.{feedback_of, text_job}
-use Rattle.run_laws.specs.Output.{report_of}
+use Rattle.report_laws.specs.Output.{report_of}
 
 -- a run of text jobs
 abbrev pub TextRun : Type 0

@@ -6,7 +6,7 @@ ghost use Rattle.graph_plans.specs.PlanRows.{plan_rows};
 ghost use Rattle.call_status.specs.Codes.{code_of};
 ghost use Rattle.call_status.specs.Notes.{note_line};
 ghost use Rattle.call_status.specs.Noting.{HasNoted};
-ghost use Rattle.command_line.specs.Requests.{asked_by, upgrade};
+ghost use Rattle.command_line.specs.Requests.{AskedRounds, asked_by, upgrade};
 ghost use Rattle.nested_runs.specs.Reasons.{run_reason};
 ghost use Rattle.text_tasks.specs.JobMeaning.{text_job};
 ghost use Rattle.pipe_laws.specs.TextPipes.{PipesInOrder};
@@ -101,12 +101,14 @@ pub fn flow_main<F: Texts, S: Sink, N: Sink, R: Threads + Wait + Sync>(
     // Whatever the number of workers: in each pipeline's run inside the kept runs the serial pipes start the tokens in the
     // order in which they pass, those that wait for others included; where nothing is cut short, all pass all pipes.
     ensures pipes { All PipesInOrder result.runs }
-    // Where the report of such a plan is asked for, and the source specifies the file and the texts, and holds them
-    // within their limits, the call is done exactly then, unless something fails, and the output has taken just that
-    // report.
-    ensures plainly { (job : TextJob)
-        → AsksPlainly (F.held texts.old) (asked_by (map string_bytes words.now)) job
-        → EndsPlainly job (S.state out.old).taken (S.state out.new).taken
+    // Where rounds of such a plan are asked for, but not their journals, and the source specifies the file and the texts,
+    // and holds them within their limits, the call is done exactly where the values of each round by one thread run
+    // through, unless something fails; and the output has taken just their reports by one thread, or the table of their
+    // profile, which has some number of spans.
+    ensures plainly { (rounds : AskedRounds) (job : TextJob)
+        → AsksPlainly (F.held texts.old) (asked_by (map string_bytes words.now)) rounds job
+        → EndsPlainly (asked_by (map string_bytes words.now)) rounds job
+        (S.state out.old).taken (S.state out.new).taken
         (NothingFails F.failed S.state texts.old texts.new out.old out.new) result.status }
     // The output took the reports or the journals of the kept runs, or their profile, or the verdict's line, or the
     // findings, or the new file; where it failed or an allocation did, a prefix of it. Where no run is kept and nothing

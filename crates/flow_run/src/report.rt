@@ -9,7 +9,7 @@ ghost use Rattle.text_tasks.specs.JobMeaning.{names_of, net_of, text_job};
 ghost use Rattle.nested_runs.specs.Reasons.{run_reason};
 ghost use Rattle.graph_plans.specs.PlanRows.{plan_rows};
 ghost use Rattle.call_status.specs.Reasons.{reason_line};
-ghost use Rattle.run_laws.specs.Output.{ended_mark, header, outcome, report, task_report, report_of};
+ghost use Rattle.report_laws.specs.Output.{ended_mark, header, outcome, report, task_report, report_of};
 ghost use Rattle.flow_run.specs.inside.RisingValues.{AreRising};
 
 use call_status::add_reason_line;

@@ -36,8 +36,8 @@ use Rattle.text_tasks.specs.OpMeaning.{OpMeaning, moves_on, never_passes, runs}
 use Rattle.text_tasks.specs.PipeWork.{IsPipeWork, PipeWork, pipeline_of}
 use Rattle.run_laws.specs.OneAnswer.{AllowsOne, InnerRunOf}
 use Rattle.run_laws.specs.OneThreadValue.{OneAnswer, TaskEnd}
-use Rattle.run_laws.specs.PlainReport.{done_by, text_does}
-use Rattle.run_laws.proofs.TextPlain.{fault_at_task, inner_at_task, value_at_task}
+use Rattle.run_laws.specs.TextAnswers.{done_by, text_does}
+use Rattle.run_laws.proofs.TextAnswers.{fault_at_task, inner_at_task, value_at_task}
 use Rattle.pipe_laws.specs.Cells.{AreCells}
 
 -- ---- the one answer of each cell

@@ -45,10 +45,10 @@ use Rattle.text_tasks.specs.JobMeaning.{JobAnswers, net_of, task_meaning, text_j
 use Rattle.text_tasks.specs.OpMeaning.{OpMeaning, hands_over, op_meaning, runs, too_wide}
 use Rattle.text_tasks.specs.PipeWork.{IsPipeWork, PipeWork, pipe_work, pipeline_of}
 use Rattle.run_laws.specs.OneAnswer.{AllowsOne}
-use Rattle.run_laws.specs.PlainReport.{IsPlanned}
+use Rattle.run_laws.specs.TextAnswers.{IsPlanned}
 use Rattle.run_laws.proofs.LastEnds.{met_at}
 use Rattle.run_laws.proofs.Runs.{inner_sound, legal_journal}
-use Rattle.run_laws.proofs.TextPlain.{inner_at_task, item_meets, module_runs, parts_none, spread_runs}
+use Rattle.run_laws.proofs.TextAnswers.{inner_at_task, item_meets, module_runs, parts_none, spread_runs}
 use Rattle.pipe_laws.specs.PipeRuns.{IsPipeRun}
 use Rattle.pipe_laws.specs.TextPipes.{KeepsOrder, PipesInOrder, StartsInOrder, run_at}
 use Rattle.pipe_laws.proofs.CellRuns.{lines_take_turns}
@@ -73,14 +73,14 @@ IsOfPlan (Graph work) = IsPlan work.plan × IfSome work.«module» (λ m. m < le
 IsOfPlan (Parts work) = Unit {0}
 IsOfPlan (Pipe work) = IsPipeWork work
 
-le_of : (a b : ℕ) → nat_le a b ≡ true → a ≤ b
+pub le_of : (a b : ℕ) → nat_le a b ≡ true → a ≤ b
 le_of a b is = grind (arith, nat_tests)
 
-pipe_runs : (few : Bool) (work : PipeWork) (count : ℕ) (inner : TextJob) → cond few (runs (Pipe work)) (too_wide count) ≡ runs inner → (inner ≡ Pipe work) × (few ≡ true)
+pub pipe_runs : (few : Bool) (work : PipeWork) (count : ℕ) (inner : TextJob) → cond few (runs (Pipe work)) (too_wide count) ≡ runs inner → (inner ≡ Pipe work) × (few ≡ true)
 pipe_runs true work count inner same = (cc, refl)
 pipe_runs false work count inner same = absurd (cc)
 
-pipe_of_plan : (plan : PipePlan) (text : List ℕ) → IsPipePlan plan → IsPipeline plan.spec → part_count plan.chunk text ≤ token_limit → IsPipeWork (pipe_work plan text)
+pub pipe_of_plan : (plan : PipePlan) (text : List ℕ) → IsPipePlan plan → IsPipeline plan.spec → part_count plan.chunk text ≤ token_limit → IsPipeWork (pipe_work plan text)
 pipe_of_plan plan text keeps pipeline few =
     let count : length (line_parts plan.chunk text) ≡ part_count plan.chunk text = length-map-range_with_len (line_part plan.chunk text) 0 (part_count plan.chunk text) in
     let passed : length (pass_order (part_count plan.chunk text) plan.defers) ≤ length {A = ℕ} [] + part_count plan.chunk text = passes_few (part_count plan.chunk text) plan.defers (part_count plan.chunk text) [] in

@@ -3,7 +3,7 @@ ghost use Rattle.std.specs.Prelude.{ℕ, Bool, List};
 ghost use Rattle.run_frame.specs.Legal.{IsKept};
 ghost use Rattle.run_frame.specs.NestedRule.{job_of};
 ghost use Rattle.text_tasks.specs.JobMeaning.{text_job};
-ghost use Rattle.run_laws.specs.PlainReport.{IsPlanned};
+ghost use Rattle.run_laws.specs.TextAnswers.{IsPlanned};
 ghost use Rattle.pipe_laws.specs.Laws.{PassAllPipes, LinesStartAlone, LinesTakeTurns, PipesKeepOrder};
 ghost use Rattle.pipe_laws.specs.TextPipes.{PipesInOrder};
 

@@ -22,7 +22,7 @@ use Rattle.text_tasks.specs.JobMeaning.{net_of}
 use Rattle.text_tasks.specs.OpMeaning.{moves_on}
 use Rattle.text_tasks.specs.PipeWork.{IsPipeWork, PipeWork, pipeline_of}
 use Rattle.run_laws.specs.OneThreadValue.{TaskEnd}
-use Rattle.run_laws.specs.PlainReport.{done_by}
+use Rattle.run_laws.specs.TextAnswers.{done_by}
 use Rattle.pipe_laws.proofs.TextCells.{cell_answer, end_by, first_answer, later_answer}
 use Rattle.pipe_values.proofs.Behind.{is_short, part_of, short_is, text_after}
 

@@ -16,12 +16,12 @@ use Rattle.text_tasks.specs.JobMeaning.{limit_of, net_of, text_gathered, text_jo
 use Rattle.text_tasks.specs.PipeWork.{IsPipeWork, PipeWork, pipeline_of}
 use Rattle.run_laws.specs.OneAnswer.{AllowsOne}
 use Rattle.run_laws.specs.PlainJobs.{LeadsTo}
-use Rattle.run_laws.specs.PlainReport.{as_value}
+use Rattle.run_laws.specs.TextAnswers.{as_value}
 use Rattle.run_laws.proofs.Along.{both, weaker}
 use Rattle.run_laws.proofs.Faults.{IsOneFault}
 use Rattle.run_laws.proofs.Report.{one_fault}
 use Rattle.run_laws.proofs.Runs.{legal_journal}
-use Rattle.run_laws.proofs.TextPlain.{gather_long, gather_value}
+use Rattle.run_laws.proofs.TextAnswers.{gather_long, gather_value}
 use Rattle.pipe_laws.specs.PipeRuns.{IsPipeRun}
 use Rattle.pipe_laws.proofs.CellRuns.{IsCellRun, is_cell_run}
 use Rattle.pipe_laws.proofs.Passed.{tokens_pass_all_pipes}

@@ -22,7 +22,7 @@ use Rattle.text_tasks.specs.CellMeaning.{line_op_value}
 use Rattle.text_tasks.specs.GraphWork.{GraphWork}
 use Rattle.text_tasks.specs.JobMeaning.{limit_of, text_job}
 use Rattle.text_tasks.specs.PipeWork.{IsPipeWork, PipeWork, order_of}
-use Rattle.run_laws.specs.PlainReport.{as_value}
+use Rattle.run_laws.specs.TextAnswers.{as_value}
 use Rattle.pipe_values.specs.Laws.{ComesToPipeValue}
 use Rattle.pipe_values.specs.PipeValue.{pipe_value, text_behind, texts_behind}
 

@@ -6,7 +6,7 @@ use Rattle.text_ops.specs.Values.{value_limit}
 use Rattle.text_tasks.specs.declared.item.Item.{Item}
 use Rattle.text_tasks.specs.CellMeaning.{line_op_value}
 use Rattle.text_tasks.specs.PipeWork.{PipeWork}
-use Rattle.run_laws.specs.PlainReport.{as_value}
+use Rattle.run_laws.specs.TextAnswers.{as_value}
 
 -- The text of a token with a place in the order behind pipes with these operations, where no text on its way is too long
 -- for a value.

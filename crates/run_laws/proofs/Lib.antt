@@ -28,4 +28,4 @@ pub mod JudgeLaws
 pub mod Reasons
 pub mod Through
 pub mod Depth
-pub mod TextPlain
+pub mod TextAnswers

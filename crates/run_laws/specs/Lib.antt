@@ -12,6 +12,4 @@ pub mod SmallNets
 pub mod PlainJobs
 pub mod PlainLaws
 pub mod JudgeLaw
-pub mod Output
-pub mod PlainReport
-pub mod SmallPlans
+pub mod TextAnswers

@@ -1,5 +1,5 @@
-//! What a run without conditions computes and reports, whatever the number of workers and the order in which they start
-//! and end tasks: the second theorem.
+//! What a run without conditions computes, whatever the number of workers and the order in which they start and end
+//! tasks.
 //!
 //! There is no code here but laws, each the contract of an empty function, in two steps.
 //!
@@ -8,26 +8,21 @@
 //!   where no token is overtaken (`specs/Steady.antt`), and each journal of some nets is, that of a pipeline
 //!   (`pipe_lines`) among them. The definitions are in `specs/`, in this order: `OneThreadValue`, `Starts`, `OneAnswer`,
 //!   `Ends`, `Steady`, `Graphs`, `Rings`, `Cycles`, `Laws`.
-//! - Reports (`reports.rt`): `plain_report` works the report of a plan out by a recursion over its net. `same_report`
-//!   says that each kept run of such a plan comes to its end fine exactly where that recursion runs through, and then
-//!   reports just that. The definitions, in this order: `Output` (the report of a run), `PlainJobs` (what jobs come to
-//!   whose tasks each come to one thing, with runs inside runs), `PlainLaws`, `PlainReport` (text jobs). `JudgeLaw`
-//!   says of the journal of each kept run that the judge finds it complete.
+//! - Jobs (`plain_jobs.rt`): what jobs come to whose tasks each come to one thing, with runs inside runs. The definitions,
+//!   in this order: `PlainJobs`, `PlainLaws`; `TextAnswers` (what the tasks of text jobs come to). `JudgeLaw` says of the
+//!   journal of each kept run that the judge finds it complete.
 //!
 //! The layer above cites these words in its clauses.
 #![tactic(auto)]
 
 mod examples;
 mod laws;
-mod reports;
+mod plain_jobs;
 
-pub use examples::{
-    circle_reports, kept_together_reports, nested_reports, plain_plans, small_values, steady_runs,
-    unsteady_runs,
-};
+pub use examples::{small_values, steady_runs, unsteady_runs};
 pub use laws::{
     all_values_of_steady_runs, graph_runs_are_decided, nets_of_rings_are_steady,
     once_nets_are_steady, pipe_nets_are_steady, pipe_nets_go_round, rings_go_round, values_grow,
     values_of_steady_runs,
 };
-pub use reports::{PlainJob, judged_complete, plain_runs, reports_are_alike, same_report};
+pub use plain_jobs::{PlainJob, judged_complete, plain_runs};

@@ -22,8 +22,9 @@ pub const COUNT: &str = r#"{"tasks":[
 // the texts `t`, `u` and `v` that it finds, with ` / ` between two, where `-` is none; what fails in it (`read CALL`,
 // `put CALL TAKEN`, `note CALL TAKEN`, or `span PLACE` among all spans that its watchers are told), how many watchers it
 // has in place of 16 (`watchers COUNT`), that the totals of its runs are seen too (`totals`), or what their pipelines
-// started (`tokens`), or `-`; and what is seen of it: the exit code, whether all was written and noted, the entries of
-// each run, then what the output took, then what standard error took. `|` ends a line of a text.
+// started (`tokens`, and behind it the order of which they start a prefix where they end by a fault), or `-`; and what is
+// seen of it: the exit code, whether all was written and noted, the entries of each run, then what the output took, then
+// what standard error took. `|` ends a line of a text.
 #[derive(Clone, Copy)]
 pub struct Row<'r> {
     pub words: &'r str,
@@ -100,7 +101,9 @@ fn filled(alloc: Global, pattern: &str, row: &str) -> Result<String, AllocError>
     Ok(filled)
 }
 
-fn first_by_workers<R: Threads + Wait + Sync>(
+/// The first call of a row, by each number of workers that a star in its words stands for, that isn't as it says, with
+/// what was seen; or nothing.
+pub fn first_by_workers<R: Threads + Wait + Sync>(
     rt: &R,
     alloc: Global,
     graph: &str,
@@ -239,11 +242,13 @@ fn shown_bytes(sink: &MemorySink) -> &str {
 }
 
 // What is to be seen of each run.
-fn sight_of(failing: &str) -> Sight {
+fn sight_of(failing: &str) -> Sight<'_> {
     match failing {
         "totals" => Sight::Totals,
-        "tokens" => Sight::Tokens,
-        _ => Sight::Length,
+        _ => match failing.strip_prefix("tokens") {
+            Some(order) => Sight::Tokens(order),
+            None => Sight::Length,
+        },
     }
 }
 
@@ -252,7 +257,7 @@ fn shown_outcome(
     alloc: Global,
     outcome: &CallResult,
     handed: Handed,
-    sight: Sight,
+    sight: Sight<'_>,
 ) -> Result<String, NoMemory> {
     let written = if outcome.written { "written" } else { "cut" };
     let mut shown = format!(in alloc; "{} {written}", outcome.status.code())?;

@@ -26,22 +26,24 @@ const NEVER_PASSING: Table = Table {
     graph: r#"{"tasks":[
     {"name":"r","op":"read","text":"t","to":["p"]},
     {"name":"p","op":"pipe","lines":@1,"pipes":[{"serial":true,"op":"pass"},{"serial":true,"op":"number"}],"defer":[@2]}]}"#,
-    call: "run g --workers * -> a|b|c|d|e| -> - -> 9 written, run of 4 [-- p|!! fault p/@3|] [flow: fault p/@3|]",
-    rows: r#"2 -> {"token":1,"to":[3]},{"token":2,"to":[1]},{"token":4,"to":[9]} -> 0.0: unmet 4
-3 -> {"token":2,"to":[1]},{"token":1,"to":[2]} -> 0.0: unmet 1
-2 -> {"token":3,"to":[3]},{"token":4,"to":[3]} -> 1.0: unmet 3
-64 -> {"token":0,"to":[5]} -> 4.0: unmet 0"#,
+    call: "run g --workers * -> a|b|c|d|e| -> tokens -> 9 written, run of 4, tokens@3, a prefix [-- p|!! fault p/@4|] [flow: fault p/@4|]",
+    rows: r#"2 -> {"token":1,"to":[3]},{"token":2,"to":[1]},{"token":4,"to":[9]} ->  0 3 1 2 -> 0.0: unmet 4
+3 -> {"token":2,"to":[1]},{"token":1,"to":[2]} ->  0 3 4 -> 0.0: unmet 1
+2 -> {"token":3,"to":[3]},{"token":4,"to":[3]} ->  0 1 2 -> 1.0: unmet 3
+64 -> {"token":0,"to":[5]} ->  1 2 3 4 -> 4.0: unmet 0
+1 -> {"token":0,"to":[1]},{"token":1,"to":[2]},{"token":2,"to":[1]},{"token":3,"to":[0]} ->  4 -> 0.0: unmet 0"#,
 };
 
-// A fault in the second pipe while later tokens are on their way.
+// A fault in the second pipe while later tokens are on their way, of which some wait for others.
 const FAULTS: Table = Table {
     graph: r#"{"tasks":[
     {"name":"r","op":"read","text":"t","to":["p"]},
     {"name":"s","op":"read","text":"u","to":["p"]},
-    {"name":"p","op":"pipe","lines":2,"pipes":[{"serial":true,"op":"pass"},{"serial":@1,"op":"number"}]}]}"#,
-    call: "run g --workers * -> MOST / a|b|c| -> - -> 9 written, run of 6 [-- p|!! fault p/0.1: long 16777218|] [flow: fault p/0.1: long 16777218|]",
-    rows: "true
-false",
+    {"name":"p","op":"pipe","lines":2,"pipes":[{"serial":true,"op":"pass"},@1],"defer":[@2]}]}"#,
+    call: "run g --workers * -> MOST / a|b|c|d| -> tokens@3 -> 9 written, run of 6, a prefix, a prefix [-- p|!! fault p/@4: long 16777218|] [flow: fault p/@4: long 16777218|]",
+    rows: r#"{"serial":true,"op":"number"},{"serial":false,"op":"pass"} ->  ->  0 1 2 3 4 -> 0.1
+{"serial":false,"op":"number"},{"serial":true,"op":"pass"} ->  ->  0 1 2 3 4 -> 0.1
+{"serial":true,"op":"number"},{"serial":false,"op":"pass"} -> {"token":0,"to":[1]},{"token":2,"to":[4]} ->  1 0 3 4 2 -> 1.1"#,
 };
 
 // As many parts as there may be, and one more.

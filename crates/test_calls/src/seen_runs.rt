@@ -9,23 +9,28 @@ use text_tasks::TextJob;
 
 /// What is to be seen of a run.
 #[derive(Clone, Copy)]
-pub enum Sight {
+pub enum Sight<'s> {
     /// How long its journal is.
     Length,
     /// Its totals besides.
     Totals,
-    /// Besides its length what the pipelines inside it started.
-    Tokens,
+    /// Besides its length which tokens the pipelines inside it started, or, where they end by a fault, whether it was a
+    /// prefix of this order.
+    Tokens(&'s str),
 }
 
 /// How many entries a run's journal has, what else is to be seen of it, and whether it isn't complete, or a run inside it
 /// isn't.
-pub fn shown_run(alloc: Global, run: &FrameRun<TextJob>, sight: Sight) -> Result<String, NoMemory> {
+pub fn shown_run(
+    alloc: Global,
+    run: &FrameRun<TextJob>,
+    sight: Sight<'_>,
+) -> Result<String, NoMemory> {
     let mut shown = format!(in alloc; "run of {}", run.journal.len())?;
     match sight {
         Sight::Length => (),
         Sight::Totals => shown.push_str(shown_totals(alloc, run)?.as_str())?,
-        Sight::Tokens => shown.push_str(shown_tokens(alloc, run)?.as_str())?,
+        Sight::Tokens(order) => shown.push_str(shown_tokens(alloc, run, order)?.as_str())?,
     }
     if !is_complete(alloc, run)? {
         shown.push_str(" that isn't complete")?;

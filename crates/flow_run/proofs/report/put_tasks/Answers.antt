@@ -8,7 +8,7 @@ use Rattle.run_frame.specs.Runs.{value_at, values_of}
 use Rattle.text_tasks.specs.declared.item.Item.{Item}
 use Rattle.text_tasks.specs.JobMeaning.{net_of, names_of}
 use Rattle.flow_run.specs.inside.RisingValues.{AreRising}
-use Rattle.run_laws.specs.Output.{task_part}
+use Rattle.report_laws.specs.Output.{task_part}
 use Rattle.flow_run.proofs.ReportLemmas.{one_written, one_refused, part_is}
 use Rattle.flow_run.proofs.ValueSearch.{kept_rise}
 use Rattle.flow_run.proofs.report.put_tasks.Goals as goal

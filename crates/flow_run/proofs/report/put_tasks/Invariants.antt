@@ -3,7 +3,7 @@ use Rattle.outside_io.specs.Sink.{Accepts}
 use Rattle.run_frame.specs.NestedRule.{job_of, journal_of}
 use Rattle.run_frame.specs.Runs.{values_of}
 use Rattle.text_tasks.specs.JobMeaning.{net_of, names_of}
-use Rattle.run_laws.specs.Output.{task_part}
+use Rattle.report_laws.specs.Output.{task_part}
 use Rattle.flow_run.proofs.report.put_tasks.Given as goal
 
 abbrev pub invariant-loop-task : goal.invariant-loop-task

@@ -10,6 +10,7 @@ use Rattle.graph_plans.specs.declared.ops.Op.TheVariants.{Input, Read, IfMore, S
 use Rattle.graph_plans.specs.declared.ops.TextOp.TheVariants.{Head, Keep, Pass}
 use Rattle.graph_plans.specs.declared.pipes.LineOp.TheVariants.{Number}
 use Rattle.graph_plans.specs.PlanRows.{GraphRows, PlanRows}
+use Rattle.pipe_lines.specs.declared.deferral.DeferRow.{DeferRow}
 use Rattle.text_tasks.specs.declared.job.TextJob.{TextJob}
 use Rattle.text_tasks.specs.declared.job.TextJob.TheVariants.{Graph}
 use Rattle.text_tasks.specs.GraphWork.{first_work}
@@ -56,11 +57,22 @@ abbrev pub spreads_a_text : PlanRows
 spreads_a_text = plan_of (codes "p" ∷ codes "s" ∷ []) (Read 0 ∷ Spread 1 Pass ∷ [])
     (record { tasks = task Plain ∷ task Nested ∷ []; edges = edge 0 1 ∷ []; sems = [] })
 
--- the lines of a text go through a pipe, which numbers them
-abbrev pub pipes_a_text : PlanRows
-pipes_a_text = plan_of (codes "p" ∷ codes "s" ∷ [])
-    (Read 0 ∷ Pipe (record { spec = record { lines = 1; serial = true ∷ [] }; ops = Number ∷ []; chunk = 1; defers = [] }) ∷ [])
+-- the lines of a text go through a pipe, which numbers them; these rows defer some of them
+abbrev pipes_lines : List DeferRow → PlanRows
+pipes_lines rows = plan_of (codes "p" ∷ codes "s" ∷ [])
+    (Read 0 ∷ Pipe (record { spec = record { lines = 1; serial = true ∷ [] }; ops = Number ∷ []; chunk = 1; defers = rows }) ∷ [])
     (record { tasks = task Plain ∷ task Nested ∷ []; edges = edge 0 1 ∷ []; sems = [] })
+
+abbrev pub pipes_a_text : PlanRows
+pipes_a_text = pipes_lines []
+
+-- the first line waits for the second
+abbrev pub exchanges_parts : PlanRows
+exchanges_parts = pipes_lines (record { token = 0; to = 1 ∷ [] } ∷ [])
+
+-- the first line waits for one that isn't there
+abbrev pub waits_for_ever : PlanRows
+waits_for_ever = pipes_lines (record { token = 0; to = 7 ∷ [] } ∷ [])
 
 -- a module of two tasks, of which the second does this
 abbrev module_of : Op → Shape → GraphRows

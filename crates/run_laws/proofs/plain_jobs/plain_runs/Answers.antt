@@ -1,5 +1,5 @@
 use Rattle.run_laws.proofs.Depth.{runs_plainly}
-use Rattle.run_laws.proofs.reports.plain_runs.Goals as goal
+use Rattle.run_laws.proofs.plain_jobs.plain_runs.Goals as goal
 
 pub returns : goal.returns
 returns g c =

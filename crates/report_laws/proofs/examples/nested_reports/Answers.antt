@@ -1,6 +1,7 @@
 use Rattle.std.proofs.Common.{refl}
+use Rattle.std.specs.Fmt.{digits}
 use Rattle.std.proofs.lemmas.Bool.{false≢true}
-use Rattle.run_laws.proofs.examples.nested_reports.Goals as goal
+use Rattle.report_laws.proofs.examples.nested_reports.Goals as goal
 
 pub returns-clause-modules : goal.returns-clause-modules
 returns-clause-modules c = refl
@@ -16,3 +17,14 @@ returns-clause-too_few_inside c = λ well. false≢true well
 
 pub returns-clause-parts : goal.returns-clause-parts
 returns-clause-parts c = refl
+
+pub returns-clause-pipe : goal.returns-clause-pipe
+unfolding digits
+returns-clause-pipe c = refl
+
+pub returns-clause-waits : goal.returns-clause-waits
+unfolding digits
+returns-clause-waits c = refl
+
+pub returns-clause-unmet : goal.returns-clause-unmet
+returns-clause-unmet c = λ well. false≢true well

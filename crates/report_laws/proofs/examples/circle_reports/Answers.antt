@@ -1,6 +1,6 @@
 use Rattle.std.proofs.Common.{refl}
 use Rattle.std.proofs.lemmas.Bool.{false≢true}
-use Rattle.run_laws.proofs.examples.circle_reports.Goals as goal
+use Rattle.report_laws.proofs.examples.circle_reports.Goals as goal
 
 pub returns-clause-report : goal.returns-clause-report
 returns-clause-report c = refl

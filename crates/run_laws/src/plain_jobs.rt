@@ -1,11 +1,9 @@
-// The laws of reports, each the contract of a function that does nothing.
+// The laws of plain jobs and of the judge, each the contract of a function that does nothing.
 ghost use Rattle.run_laws.specs.JudgeLaw.{JudgesKept};
 ghost use Rattle.run_laws.specs.PlainJobs.{PlainJobs, IsPlainly};
 ghost use Rattle.run_laws.specs.PlainLaws.{RunsPlainly};
-ghost use Rattle.run_laws.specs.PlainReport.{ReportsAlike, ReportsPlainly};
 
 use run_frame::{FrameRun, Job};
-use text_tasks::TextJob;
 
 /// A job of whose tasks each comes to one thing on what it finds.
 pub trait PlainJob: Job {
@@ -20,17 +18,6 @@ pub trait PlainJob: Job {
 /// tasks have ended with these values.
 pub fn plain_runs<J: PlainJob>(run: &FrameRun<J>)
     ensures { RunsPlainly J.meaning J.plain run.now }
-{}
-
-/// A kept run of a plan without conditions is fine exactly where the values by one thread run through, and its report
-/// is then that of one thread.
-pub fn same_report(run: &FrameRun<TextJob>)
-    ensures { ReportsPlainly run.now }
-{}
-
-/// Two kept runs of one such job report the same, where one of them is fine.
-pub fn reports_are_alike(one: &FrameRun<TextJob>, other: &FrameRun<TextJob>)
-    ensures { ReportsAlike one.now other.now }
 {}
 
 /// The judge finds the journal of a kept run complete, by the net and the limit of its job.

@@ -9,9 +9,9 @@ use Rattle.graph_plans.specs.PlanRows.{PlanRows}
 use Rattle.graph_plans.specs.declared.ops.Op.{Op}
 use Rattle.graph_plans.specs.declared.ops.Op.TheVariants.{Input, Read, Text as OnText}
 use Rattle.graph_plans.specs.declared.ops.TextOp.TheVariants.{Head}
-use Rattle.run_laws.specs.PlainReport.{IsNoPipe, OfModule, UsesPlain}
-use Rattle.run_laws.specs.SmallPlans.{kept_together, runs_one_module, spreads_a_text}
-use Rattle.run_laws.proofs.examples.plain_plans.Goals as goal
+use Rattle.report_laws.specs.PlainReport.{OfModule, UsesPlain}
+use Rattle.report_laws.specs.SmallPlans.{kept_together, pipes_a_text, runs_one_module, spreads_a_text}
+use Rattle.report_laws.proofs.examples.plain_plans.Goals as goal
 
 abbrev row : TaskRow
 row = record { shape = Plain; takes = []; puts = [] }
@@ -25,7 +25,6 @@ returns-clause-plain c = (
   record {
     no_condition = All-from_recursion (λ (r : TaskRow). chooses r.shape ≡ false) kept_together.top.net.tasks (refl, (refl, (refl, (refl, tt))));
     returns = All-from_recursion (λ (r : TaskRow). r.takes ≡ r.puts) kept_together.top.net.tasks (refl, (refl, (refl, (refl, tt))));
-    no_pipeline = All-from_recursion IsNoPipe kept_together.top.ops (tt, (tt, (tt, (tt, tt))));
   },
   All-from_recursion (uses kept_together) kept_together.top.ops (tt, (tt, (tt, (tt, tt)))),
 )
@@ -35,7 +34,6 @@ returns-clause-spreads c = (
   record {
     no_condition = All-from_recursion (λ (r : TaskRow). chooses r.shape ≡ false) spreads_a_text.top.net.tasks (refl, (refl, tt));
     returns = All-from_recursion (λ (r : TaskRow). r.takes ≡ r.puts) spreads_a_text.top.net.tasks (refl, (refl, tt));
-    no_pipeline = All-from_recursion IsNoPipe spreads_a_text.top.ops (tt, (tt, tt));
   },
   All-from_recursion (uses spreads_a_text) spreads_a_text.top.ops (tt, (tt, tt)),
 )
@@ -45,14 +43,12 @@ returns-clause-runs c = (
   record {
     no_condition = All-from_recursion (λ (r : TaskRow). chooses r.shape ≡ false) runs_one_module.top.net.tasks (refl, tt);
     returns = All-from_recursion (λ (r : TaskRow). r.takes ≡ r.puts) runs_one_module.top.net.tasks (refl, tt);
-    no_pipeline = All-from_recursion IsNoPipe runs_one_module.top.ops (tt, tt);
   },
   All-from_recursion (uses runs_one_module) runs_one_module.top.ops (
     (
       record {
         no_condition = All-from_recursion (λ (r : TaskRow). chooses r.shape ≡ false) (row ∷ row ∷ []) (refl, (refl, tt));
         returns = All-from_recursion (λ (r : TaskRow). r.takes ≡ r.puts) (row ∷ row ∷ []) (refl, (refl, tt));
-        no_pipeline = All-from_recursion IsNoPipe (Input ∷ OnText (Head 1) ∷ []) (tt, (tt, tt));
       },
       All-from_recursion (OfModule (λ used. IfSome used (UsesPlain 6 runs_one_module)) runs_one_module.modules) (Input ∷ OnText (Head 1) ∷ []) (tt, (tt, tt)),
     ),
@@ -69,5 +65,11 @@ returns-clause-chooses_inside c = λ plain. let chosen : true ≡ false = (plain
 pub returns-clause-unit : goal.returns-clause-unit
 returns-clause-unit c = λ plain. let same : ◌≡◌ {A = List ℕ} (0 ∷ []) [] = plain.0.returns 0 row (omega arith) in cc
 
-pub returns-clause-pipeline : goal.returns-clause-pipeline
-returns-clause-pipeline c = λ plain. plain.0.no_pipeline 1 (Read 0) (omega arith)
+pub returns-clause-pipes : goal.returns-clause-pipes
+returns-clause-pipes c = (
+  record {
+    no_condition = All-from_recursion (λ (r : TaskRow). chooses r.shape ≡ false) pipes_a_text.top.net.tasks (refl, (refl, tt));
+    returns = All-from_recursion (λ (r : TaskRow). r.takes ≡ r.puts) pipes_a_text.top.net.tasks (refl, (refl, tt));
+  },
+  All-from_recursion (uses pipes_a_text) pipes_a_text.top.ops (tt, (tt, tt)),
+)

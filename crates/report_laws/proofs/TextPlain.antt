@@ -25,14 +25,15 @@ use Rattle.run_frame.specs.declared.job.Done.{Done}
 use Rattle.run_frame.specs.declared.job.Done.TheVariants.{Value, Inner as InnerJob}
 use Rattle.run_frame.specs.declared.run.FrameRun.{FrameRun}
 use Rattle.run_frame.specs.LastEnds.{last_value}
+use Rattle.run_frame.specs.Legal.{IsKept}
 use Rattle.run_frame.specs.NestedRule.{job_of, journal_of}
 use Rattle.run_frame.specs.Runs.{values_of}
 use Rattle.nested_runs.specs.Spreads.{part_limit, part_row, spread_net}
 use Rattle.text_ops.specs.LineParts.{line_part, line_parts, part_count}
 use Rattle.text_ops.specs.Values.{value_limit}
 use Rattle.graph_plans.specs.ModuleUses.{has_chain, modules_run, run_before}
-use Rattle.graph_plans.specs.Operations.{IsOp}
-use Rattle.graph_plans.specs.PlanRows.{GraphRows, IsGraph, IsPlan, PlanRows, depth_limit, module_uses}
+use Rattle.graph_plans.specs.Operations.{HasPipeline, IsOp}
+use Rattle.graph_plans.specs.PlanRows.{GraphRows, HasPipelines, IsGraph, IsPlan, PlanRows, depth_limit, module_uses}
 use Rattle.graph_plans.specs.declared.ops.TextOp.{TextOp}
 use Rattle.graph_plans.specs.declared.ops.Op.{Op}
 use Rattle.graph_plans.specs.declared.ops.Op.TheVariants.{Input, Read, Text as OnText, Match, Back, IfMore, IfHas, Route, Spread, Module, Pipe as PipeOp}
@@ -46,24 +47,27 @@ use Rattle.text_tasks.specs.GraphWork.{GraphWork, graph_in, graph_of, module_wor
 use Rattle.text_tasks.specs.PartsWork.{PartsWork}
 use Rattle.text_tasks.specs.Items.{item_text}
 use Rattle.text_tasks.specs.JobMeaning.{AnswersAs, FaultsAs, FaultsLong, JobAnswers, JobFollows, feedback_of, gathered_text, job_plan, net_of, names_of, task_meaning, text_gathered, text_job}
-use Rattle.text_tasks.specs.PipeWork.{pipe_work}
+use Rattle.text_tasks.specs.PipeWork.{IsPipeWork, pipe_work}
+use Rattle.pipe_lines.specs.DeferRows.{token_limit}
+use Rattle.pipe_lines.specs.PassOrder.{pass_order}
 use Rattle.text_tasks.specs.Sinks.{is_sink, last_sink, task_values}
 use Rattle.text_tasks.specs.OpMeaning.{OpMeaning, hands_over, moves_on, never_passes, op_meaning, runs, text_op_value, too_wide}
 use Rattle.call_status.specs.Reasons.{reason_line}
 use Rattle.nested_runs.specs.Reasons.{run_reason}
 use Rattle.nested_runs.specs.declared.reasons.Reason.TheVariants.{Fine}
-use Rattle.run_laws.specs.Output.{report, task_report}
-use Rattle.run_laws.specs.PlainJobs.{IsInside, IsPlainly, plain_value}
+use Rattle.report_laws.specs.Output.{report, task_report}
+use Rattle.run_laws.specs.PlainJobs.{IsGraphJob, IsInside, IsPlainly, LeadsTo, plain_value}
 use Rattle.run_laws.specs.PlainLaws.{IsPlainRun}
-use Rattle.run_laws.specs.PlainReport.{HasSameReport, IsNoPipe, IsPlainGraph, IsPlainJob, IsPlainTo, IsPlanned, IsSoundGraph, NestsPlainly, OfModule, OpensNone, ReportsAlike, ReportsPlainly, RunsWell, UsesPlain, as_value, done_by, greatest_depth, plain_feedback, plain_next, plain_report, text_answer, text_does, text_plain}
+use Rattle.run_laws.specs.TextAnswers.{IsPlanned, as_value, done_by, text_does}
+use Rattle.report_laws.specs.PlainReport.{HasSameReport, HasSoundPipes, IsPlainGraph, IsPlainJob, IsPlainTo, IsSoundGraph, NestsPlainly, OfModule, OpensNone, ReportsAlike, ReportsPlainly, RunsWell, UsesPlain, greatest_depth, known_value, plain_feedback, plain_next, plain_report, text_answer, text_plain}
 use Rattle.run_laws.proofs.Depth.{runs_plainly}
 use Rattle.run_laws.proofs.LastEnds.{flat_map_below}
+use Rattle.run_laws.proofs.TextAnswers.{fault_at_task, gather_long, gather_value, inner_at_task, item_meets, module_runs, parts_none, spread_runs, value_at_task}
+use Rattle.pipe_laws.proofs.TextCells.{cell_runs}
+use Rattle.pipe_laws.proofs.TextInside.{le_of, passes_few, pipe_of_plan, pipe_runs}
+use Rattle.pipe_values.proofs.Values.{comes_to_value}
 
 -- ---- nets without conditions
-
--- an item that is there meets what all meet
-pub item_meets : {X : Type 0} (P : X → Type 0) (xs : List X) (k : ℕ) (x : X) → All P xs → slice_get xs k ≡ Some x → P x
-item_meets P xs k x all is = subst P (get_or_from_slice_get xs k x x is) (all k x (slice_get_within xs k x is))
 
 pub no_weak : (net : NetRows) → All (λ (row : TaskRow). chooses row.shape ≡ false) net.tasks → (e : ℕ) → is_weak net e ≡ false
 no_weak net none e = by_edge (slice_get net.edges e)
@@ -96,65 +100,6 @@ same_units net same s t = by_task (slice_get net.tasks t) refl
     by_task None is = refl
     by_task (Some row) is = ap has (item_meets (λ (r : TaskRow). r.takes ≡ r.puts) net.tasks t row same is)
 
--- ---- what text jobs do
-
-short_test : (text : List ℕ) → length text ≤ value_limit → nat_le (length text) value_limit ≡ true
-short_test text few = grind (arith, nat_tests)
-
-long_test : (text : List ℕ) (n : ℕ) → n ≡ length text → value_limit < n → nat_le (length text) value_limit ≡ false
-long_test text n is over = let longer : value_limit < length text = omega (arith, is, over) in grind (arith, nat_tests)
-
--- an answer that is allowed is what is done
-value_done : (meaning : OpMeaning) (item : Item) (answer : Answer) → AnswersAs meaning (Value item answer) → done_by meaning ≡ Some (Value item answer)
-value_done (hands_over text chosen) item answer is =
-    ap (λ b. cond b (Some (Value (Text text) chosen)) None) (short_test text is.2)
-    ∙ ap (λ i. Some (Value i chosen)) (sym is.0)
-    ∙ ap (λ a. Some (Value item a)) (sym is.1)
-value_done (moves_on cell chosen) item answer is =
-    ap (λ b. cond b (Some (Value (Cell cell) chosen)) None) (short_test cell.text is.2)
-    ∙ ap (λ i. Some (Value i chosen)) (sym is.0)
-    ∙ ap (λ a. Some (Value item a)) (sym is.1)
-value_done (runs inner) item answer is = absurd is
-value_done (too_wide parts) item answer is = absurd is
-value_done (never_passes token) item answer is = absurd is
-
--- a value, where its text isn't too long
-abbrev finished : List ℕ → Item → Answer → Option (Done TextJob Item)
-finished text item chosen = cond (nat_le (length text) value_limit) (Some (Value item chosen)) None
-
-long_done : (text : List ℕ) (item : Item) (chosen : Answer) (why : Why) → FaultsLong text why → finished text item chosen ≡ None
-long_done text item chosen (Long n) is = ap (λ b. cond {A = Option (Done TextJob Item)} b (Some (Value item chosen)) None) (long_test text n is.0 is.1)
-long_done text item chosen (Wide n) is = absurd is
-long_done text item chosen (Unmet k) is = absurd is
-long_done text item chosen Inner is = absurd is
-long_done text item chosen (OverRelease s) is = absurd is
-
-fault_done : (meaning : OpMeaning) (why : Why) → FaultsAs meaning why → done_by meaning ≡ None
-fault_done (hands_over text chosen) why is = long_done text (Text text) chosen why is
-fault_done (moves_on cell chosen) why is = long_done cell.text (Cell cell) chosen why is
-fault_done (runs inner) why is = absurd is
-fault_done (too_wide parts) why is = refl
-fault_done (never_passes token) why is = refl
-
-inner_done : (meaning : OpMeaning) (inner : TextJob) → AnswersAs meaning (InnerJob inner) → meaning ≡ runs inner
-inner_done (hands_over text chosen) inner is = absurd is
-inner_done (moves_on cell chosen) inner is = absurd is
-inner_done (runs job) inner is = ap runs (sym is)
-inner_done (too_wide parts) inner is = absurd is
-inner_done (never_passes token) inner is = absurd is
-
-pub value_at_task : (o : Option OpMeaning) (item : Item) (answer : Answer) → IsSomeAnd o (λ m. AnswersAs m (Value item answer)) → option_and_then done_by o ≡ Some (Value item answer)
-value_at_task None item answer is = absurd is
-value_at_task (Some m) item answer is = value_done m item answer is
-
-pub fault_at_task : (o : Option OpMeaning) (why : Why) → IsSomeAnd o (λ m. FaultsAs m why) → option_and_then done_by o ≡ None
-fault_at_task None why is = absurd is
-fault_at_task (Some m) why is = fault_done m why is
-
-pub inner_at_task : (o : Option OpMeaning) (inner : TextJob) → IsSomeAnd o (λ m. AnswersAs m (InnerJob inner)) → o ≡ Some (runs inner)
-inner_at_task None inner is = absurd is
-inner_at_task (Some m) inner is = ap Some (inner_done m inner is)
-
 -- ---- jobs inside jobs
 
 -- a job that is plain to one depth less
@@ -163,38 +108,27 @@ pub record Below (d : ℕ) (job : TextJob) : Type 0 where
   pub less : d ≡ suc below
   pub plain : IsPlainTo below job
 
-pub spread_runs : (few : Bool) (parts : PartsWork) (count : ℕ) (inner : TextJob) → cond few (runs (Parts parts)) (too_wide count) ≡ runs inner → (inner ≡ Parts parts) × (few ≡ true)
-spread_runs true parts count inner same = (cc, refl)
-spread_runs false parts count inner same = absurd (cc)
-
-pub module_runs : (short : Bool) (work : GraphWork) (text : List ℕ) (inner : TextJob) → cond short (runs (Graph work)) (hands_over text Each) ≡ runs inner → inner ≡ Graph work
-module_runs true work text inner same = cc
-module_runs false work text inner same = absurd (cc)
-
 abbrev Inside : ℕ → PlanRows → Option GraphRows → Type 0
 Inside d plan used = IsSomeAnd used (λ g. IsSoundGraph g × NestsPlainly d plan g)
 
 module _ (work : GraphWork) (found : List (InputValue Item)) (inner : TextJob) where
-  op_below : (d : ℕ) (op : Op) → IsNoPipe op → OfModule (Inside d work.plan) work.plan.modules op → op_meaning work found op ≡ runs inner → Below (suc d) inner
-  op_below d Input no_pipe uses same = absurd (cc)
-  op_below d (Read number) no_pipe uses same = absurd (cc)
-  op_below d (OnText op) no_pipe uses same = absurd (cc)
-  op_below d Match no_pipe uses same = absurd (cc)
-  op_below d Back no_pipe uses same = absurd (cc)
-  op_below d (IfMore n) no_pipe uses same = absurd (cc)
-  op_below d (IfHas word) no_pipe uses same = absurd (cc)
-  op_below d (Route words) no_pipe uses same = absurd (cc)
-  op_below d (Spread n each) no_pipe uses same =
+  op_below : (d : ℕ) (op : Op) → HasSoundPipes op → OfModule (Inside d work.plan) work.plan.modules op → op_meaning work found op ≡ runs inner → Below (suc d) inner
+  op_below d Input pipes uses same = absurd (cc)
+  op_below d (Read number) pipes uses same = absurd (cc)
+  op_below d (OnText op) pipes uses same = absurd (cc)
+  op_below d Match pipes uses same = absurd (cc)
+  op_below d Back pipes uses same = absurd (cc)
+  op_below d (IfMore n) pipes uses same = absurd (cc)
+  op_below d (IfHas word) pipes uses same = absurd (cc)
+  op_below d (Route words) pipes uses same = absurd (cc)
+  op_below d (Spread n each) pipes uses same =
       let text : List ℕ = text_found found in
       let is = spread_runs (nat_le (part_count n text) part_limit) (record { parts = line_parts n text; op = each }) (part_count n text) inner same in
       let few : part_count n text ≤ part_limit = le_of (part_count n text) part_limit is.1 in
       let count : length (line_parts n text) ≡ part_count n text = length-map-range_with_len (line_part n text) 0 (part_count n text) in
       let all : length (line_parts n text) ≤ part_limit = omega (arith, few, count) in
       record { below = d; less = refl; plain = subst (IsPlainTo d) (sym is.0) all }
-    where
-      le_of : (a b : ℕ) → nat_le a b ≡ true → a ≤ b
-      le_of a b is = grind (arith, nat_tests)
-  op_below d (Module m) no_pipe uses same =
+  op_below d (Module m) pipes uses same =
       let text : List ℕ = text_found found in
       let is = module_runs (nat_le (length text) value_limit) (module_work work m text) text inner same in
       record { below = d; less = refl; plain = subst (IsPlainTo d) (sym is) (by_graph (slice_get work.plan.modules m) refl uses) }
@@ -203,7 +137,15 @@ module _ (work : GraphWork) (found : List (InputValue Item)) (inner : TextJob) w
           → IsSoundGraph (slice_index_or work.plan.modules m work.plan.top) × NestsPlainly d work.plan (slice_index_or work.plan.modules m work.plan.top)
       by_graph None at is = absurd is
       by_graph (Some g) at is = subst (λ h. IsSoundGraph h × NestsPlainly d work.plan h) (sym (get_or_from_slice_get work.plan.modules m g work.plan.top at)) is
-  op_below d (PipeOp plan) no_pipe uses same = absurd no_pipe
+  op_below d (PipeOp plan) pipes uses same =
+      let text : List ℕ = text_found found in
+      let count : ℕ = part_count plan.chunk text in
+      let is = pipe_runs (nat_le count token_limit) (pipe_work plan text) count inner same in
+      let of : IsPipeWork (pipe_work plan text) = pipe_of_plan plan text pipes.0 pipes.1 (le_of count token_limit is.1) in
+      let parts : length (line_parts plan.chunk text) ≡ count = length-map-range_with_len (line_part plan.chunk text) 0 count in
+      let passed : length (pass_order count plan.defers) ≤ length {A = ℕ} [] + count = passes_few count plan.defers count [] in
+      let few : length (pass_order count plan.defers) ≤ length (line_parts plan.chunk text) = omega (arith, passed, parts) in
+      record { below = d; less = refl; plain = subst (IsPlainTo d) (sym is.0) (of, few) }
 
   op_none : (op : Op) → OpensNone op → op_meaning work found op ≡ runs inner → ⊥
   op_none Input none same = cc
@@ -222,16 +164,12 @@ module _ (work : GraphWork) (found : List (InputValue Item)) (inner : TextJob) w
   by_depth d t sound nests None at same = absurd (none-some _ same)
   by_depth zero t sound nests (Some op) at same = absurd (op_none op (item_meets OpensNone (graph_of work).ops t op nests at) (same_Some _ _ same))
   by_depth (suc d) t sound nests (Some op) at same =
-      op_below d op (item_meets IsNoPipe (graph_of work).ops t op sound.plain.no_pipeline at) (item_meets (OfModule (Inside d work.plan) work.plan.modules) (graph_of work).ops t op nests at) (same_Some _ _ same)
-
-pub parts_none : (o : Option (List ℕ)) (op : TextOp) (inner : TextJob) → option_map (λ part. hands_over (text_op_value op part) Each) o ≡ Some (runs inner) → ⊥
-parts_none None op inner same = none-some _ same
-parts_none (Some part) op inner same = let is : hands_over (text_op_value op part) Each ≡ runs inner = same_Some _ _ same in cc
+      op_below d op (item_meets HasSoundPipes (graph_of work).ops t op sound.pipes at) (item_meets (OfModule (Inside d work.plan) work.plan.modules) (graph_of work).ops t op nests at) (same_Some _ _ same)
 
 text_below : (d : ℕ) (job : TextJob) (t : ℕ) (found : List (InputValue Item)) (inner : TextJob) → IsPlainTo d job → task_meaning job t found ≡ Some (runs inner) → Below d inner
 text_below d (Graph work) t found inner is same = by_depth work found inner d t is.0 is.1 (slice_get (graph_of work).ops t) refl same
 text_below d (Parts work) t found inner is same = absurd (parts_none (slice_get work.parts t) work.op inner same)
-text_below d (Pipe work) t found inner is same = absurd is
+text_below d (Pipe work) t found inner is same = absurd (cell_runs work t found (slice_get work.ops _) inner same)
 
 text_inner : (d : ℕ) (job : TextJob) (t : ℕ) (found : List (InputValue Item)) (inner : TextJob) → IsPlainTo d job → JobAnswers job t found (InnerJob inner) → IsInside text_plain d job t found inner
 text_inner d job t found inner is answers =
@@ -241,21 +179,11 @@ text_inner d job t found inner is answers =
 
 -- ---- gathering
 
-pub gather_value : (text : List ℕ) (item : Item) → item ≡ Text text → length text ≤ value_limit → as_value text ≡ Some item
-gather_value text item is short = ap (λ b. cond b (Some (Text text)) None) (short_test text short) ∙ ap Some (sym is)
-
-pub gather_long : (text : List ℕ) (why : Why) → FaultsLong text why → as_value text ≡ None
-gather_long text (Long n) is = ap (λ b. cond b (Some (Text text)) None) (long_test text n is.0 is.1)
-gather_long text (Wide n) is = absurd is
-gather_long text (Unmet k) is = absurd is
-gather_long text Inner is = absurd is
-gather_long text (OverRelease s) is = absurd is
-
 -- a plain job's run is gathered by what its tasks ended with
-gathered_is : (d : ℕ) (run : FrameRun TextJob Item) (job : TextJob) → IsPlainTo d job → text_gathered job run ≡ gathered_text job (task_values (net_of job) run)
-gathered_is d run (Graph work) is = refl
-gathered_is d run (Parts work) is = refl
-gathered_is d run (Pipe work) is = absurd is
+gathered_is : (run : FrameRun TextJob Item) (job : TextJob) → known_value job ≡ None → text_gathered job run ≡ gathered_text job (task_values (net_of job) run)
+gathered_is run (Graph work) is = refl
+gathered_is run (Parts work) is = refl
+gathered_is run (Pipe work) is = absurd (none-some _ (sym is))
 
 -- ---- text jobs
 
@@ -278,37 +206,44 @@ parts_sound n few = record {
     sem_count = omega arith;
   };
   no_first_tokens = All-nil _;
-  plain = record { no_condition = all_parts (λ row. chooses row.shape ≡ false) n refl; returns = all_parts (λ row. row.takes ≡ row.puts) n refl; no_pipeline = All-nil _ };
+  pipes = All-nil _;
+  plain = record { no_condition = all_parts (λ row. chooses row.shape ≡ false) n refl; returns = all_parts (λ row. row.takes ≡ row.puts) n refl };
 }
 
-sound_graph : (d : ℕ) (job : TextJob) → IsPlainTo d job → (g : GraphRows) × (g.net ≡ net_of job) × IsSoundGraph g
-sound_graph d (Graph work) is = (graph_of work, refl, is.0)
-sound_graph d (Parts work) is = (record { name = []; names = []; ops = []; sem_names = []; net = spread_net (length work.parts) }, refl, parts_sound (length work.parts) is)
-sound_graph d (Pipe work) is = absurd is
+sound_graph : (d : ℕ) (job : TextJob) → IsGraphJob text_plain d job → (g : GraphRows) × (g.net ≡ net_of job) × IsSoundGraph g
+sound_graph d (Graph work) is = (graph_of work, refl, is.such.0)
+sound_graph d (Parts work) is = (record { name = []; names = []; ops = []; sem_names = []; net = spread_net (length work.parts) }, refl, parts_sound (length work.parts) is.such)
+sound_graph d (Pipe work) is = absurd (none-some _ (sym is.graph))
 
-text_net : (d : ℕ) (job : TextJob) → IsPlainTo d job → IsNet (net_of job)
+text_net : (d : ℕ) (job : TextJob) → IsGraphJob text_plain d job → IsNet (net_of job)
 text_net d job is = let of = sound_graph d job is in subst IsNet of.1 of.2.is_net
 
-text_once : (d : ℕ) (job : TextJob) → IsPlainTo d job → IsOnceNet (net_of job)
+text_once : (d : ℕ) (job : TextJob) → IsGraphJob text_plain d job → IsOnceNet (net_of job)
 text_once d job is =
     let of = sound_graph d job is in
     subst IsOnceNet of.1 (record { strong = no_weak of.0.net of.2.plain.no_condition; no_first = no_first_token of.0.net of.2.no_first_tokens })
 
-text_returns : (d : ℕ) (job : TextJob) → IsPlainTo d job → (s t : ℕ) → takes (net_of job) s t ≡ puts (net_of job) s t
+text_returns : (d : ℕ) (job : TextJob) → IsGraphJob text_plain d job → (s t : ℕ) → takes (net_of job) s t ≡ puts (net_of job) s t
 text_returns d job is s t = let of = sound_graph d job is in subst (λ net. takes net s t ≡ puts net s t) of.1 (same_units of.0.net of.2.plain.returns s t)
+
+-- what is known of a pipeline by itself
+known_by_itself : (d : ℕ) (run : FrameRun TextJob Item) (result : Option Item) (job : TextJob) → job_of run ≡ job → IsPlainTo d job → known_value job ≡ Some result → IsKept text_job run → LeadsTo text_job run result
+known_by_itself d run result (Graph work) same is known kept = absurd (none-some _ known)
+known_by_itself d run result (Parts work) same is known kept = absurd (none-some _ known)
+known_by_itself d run result (Pipe work) same is known kept = subst (LeadsTo text_job run) (same_Some _ _ known) (comes_to_value run work same is.0 is.1 kept)
 
 -- text jobs without conditions are plain
 pub text_plainly : IsPlainly text_job text_plain
 text_plainly = record {
-  net = λ d job is. text_net d job is.such;
-  once = λ d job is. text_once d job is.such;
-  returns = λ d job is. text_returns d job is.such;
+  net = λ d job is. text_net d job is;
+  once = λ d job is. text_once d job is;
+  returns = λ d job is. text_returns d job is;
   value = λ d job t found item answer is allowed. value_at_task (task_meaning job t found) item answer allowed;
   fault = λ d job t found why is allowed. fault_at_task (task_meaning job t found) why allowed;
   inner = λ d job t found inner is allowed. text_inner d job t found inner is.such allowed;
-  gathers = λ d run item is gathered. ap as_value (sym (gathered_is d run (job_of run) is.such)) ∙ gather_value (text_gathered (job_of run) run) item gathered.0 gathered.1;
-  gather_fault = λ d run why is fault. ap as_value (sym (gathered_is d run (job_of run) is.such)) ∙ gather_long (text_gathered (job_of run) run) why fault;
-  by_itself = λ d run result is known kept. absurd (cc);
+  gathers = λ d run item is gathered. ap as_value (sym (gathered_is run (job_of run) is.graph)) ∙ gather_value (text_gathered (job_of run) run) item gathered.0 gathered.1;
+  gather_fault = λ d run why is fault. ap as_value (sym (gathered_is run (job_of run) is.graph)) ∙ gather_long (text_gathered (job_of run) run) why fault;
+  by_itself = λ d run result is known kept. known_by_itself d run result (job_of run) refl is known kept;
 }
 
 -- ---- plans
@@ -350,15 +285,33 @@ module _ (plan : PlanRows) (rules : IsPlan plan) where
   abbrev Rules : GraphRows → Type 0
   Rules = IsGraph (length plan.texts) (length plan.modules)
 
-  sound_by : (d : ℕ) (g : GraphRows) → Rules g → UsesPlain d plan g → IsSoundGraph g
-  sound_by d g keeps uses = record { is_net = keeps.net; no_first_tokens = keeps.no_first_tokens; plain = plain_here plan d g uses }
+  -- the pipes of a graph's operations are pipelines
+  sound_pipes : (g : GraphRows) → Rules g → HasPipelines g → All HasSoundPipes g.ops
+  sound_pipes g keeps pipelines = λ k op below. by_op (slice_index_or g.ops k op) (keeps.ops k op below) (pipelines k op below)
+    where
+      by_op : (op : Op) → IsOp (length plan.texts) (length plan.modules) op → HasPipeline op → HasSoundPipes op
+      by_op Input fits has = tt
+      by_op (Read number) fits has = tt
+      by_op (OnText op) fits has = tt
+      by_op Match fits has = tt
+      by_op Back fits has = tt
+      by_op (IfMore n) fits has = tt
+      by_op (IfHas word) fits has = tt
+      by_op (Route words) fits has = tt
+      by_op (Spread n each) fits has = tt
+      by_op (Module m) fits has = tt
+      by_op (PipeOp plan) fits has = (fits, has)
 
-  module_at : (m : ℕ) → m < length plan.modules → (g : GraphRows) × (slice_get plan.modules m ≡ Some g) × Rules g × (slice_index_or (module_uses plan) m [] ≡ modules_run g.ops)
+  sound_by : (d : ℕ) (g : GraphRows) → Rules g → HasPipelines g → UsesPlain d plan g → IsSoundGraph g
+  sound_by d g keeps pipelines uses = record { is_net = keeps.net; no_first_tokens = keeps.no_first_tokens; pipes = sound_pipes g keeps pipelines; plain = plain_here plan d g uses }
+
+  module_at : (m : ℕ) → m < length plan.modules → (g : GraphRows) × (slice_get plan.modules m ≡ Some g) × Rules g × (slice_index_or (module_uses plan) m [] ≡ modules_run g.ops) × HasPipelines g
   module_at m below = (
     slice_index_or plan.modules m plan.top,
     slice_get-get_or plan.modules m plan.top below,
     rules.graphs (suc m) plan.top (omega (arith, below)),
     get_or-map (λ (graph : GraphRows). modules_run graph.ops) plan.modules m plan.top [] below,
+    rules.pipelines (suc m) plan.top (omega (arith, below)),
   )
 
   -- what holds of each module that a graph's tasks run
@@ -388,18 +341,24 @@ module _ (plan : PlanRows) (rules : IsPlan plan) where
       let deep : has_chain (suc e) (module_uses plan) (modules_run of.0.ops) ≡ false =
       ap (has_chain (suc e) (module_uses plan)) (sym of.3) ∙ run_fails (λ n. has_chain (suc e) (module_uses plan) (slice_index_or (module_uses plan) n [])) g.ops k m at shallow in
       let plainly : UsesPlain e plan of.0 = subst (λ o. IfSome o (UsesPlain e plan)) of.1 (item_meets (OfModule (λ o. IfSome o (UsesPlain e plan)) plan.modules) g.ops k (Module m) uses.1 at) in
-      subst (λ o. Inside (suc e) plan o) (sym of.1) (sound_by e of.0 of.2 plainly, nests e of.0 of.2 deep plainly))
+      subst (λ o. Inside (suc e) plan o) (sym of.1) (sound_by e of.0 of.2 of.4 plainly, nests e of.0 of.2 deep plainly))
 
 -- a job of a plan without conditions is plain to the depth of plans
-plain_to : (job : TextJob) → IsPlanned job → IsPlainJob job → IsPlainTo greatest_depth job
+pub plain_to : (job : TextJob) → IsPlanned job → IsPlainJob job → IsPlainTo greatest_depth job
 plain_to (Graph work) is plain =
     let top : graph_of work ≡ work.plan.top = ap (graph_in work.plan) is.1 in
     let keeps = is.0.graphs 0 work.plan.top (omega arith) in
     let uses : UsesPlain depth_limit work.plan work.plan.top = subst (UsesPlain depth_limit work.plan) top plain in
     subst (λ g. IsSoundGraph g × NestsPlainly greatest_depth work.plan g) (sym top)
-    (sound_by work.plan is.0 depth_limit work.plan.top keeps uses, nests work.plan is.0 depth_limit work.plan.top keeps is.0.depth uses)
+    (sound_by work.plan is.0 depth_limit work.plan.top keeps (is.0.pipelines 0 work.plan.top (omega arith)) uses, nests work.plan is.0 depth_limit work.plan.top keeps is.0.depth uses)
 plain_to (Parts work) is plain = absurd plain
 plain_to (Pipe work) is plain = absurd plain
+
+-- such a job is that of a graph
+none_known : (job : TextJob) → IsPlainJob job → known_value job ≡ None
+none_known (Graph work) plain = refl
+none_known (Parts work) plain = absurd plain
+none_known (Pipe work) plain = absurd plain
 
 -- the last number that passes is one of them
 last_passing : (test : ℕ → Bool) (a n : ℕ) (o : Option ℕ) (t : ℕ) → last_or o (filter test (range_with_len a n)) ≡ Some t → (o ≡ Some t) ⊎ (t < a + n)
@@ -422,7 +381,7 @@ next_same run (Pipe work) next same follows = absurd follows
 -- a run that is kept of such a job reports what one thread does
 pub same_report : (run : FrameRun TextJob Item) → ReportsPlainly run
 same_report run plain is kept =
-    let plainly : IsPlainRun text_job run (text_answer (job_of run)) = runs_plainly text_job text_plain text_plainly run greatest_depth (record { such = plain_to (job_of run) is plain; graph = refl }) kept in
+    let plainly : IsPlainRun text_job run (text_answer (job_of run)) = runs_plainly text_job text_plain text_plainly run greatest_depth (record { such = plain_to (job_of run) is plain; graph = none_known (job_of run) plain }) kept in
     record {
       fine = plainly.fine;
       next = λ reason next follows.

@@ -1,70 +1,41 @@
 -- The report of a graph without conditions, worked out by a recursion over its net.
-use Rattle.std.specs.Prelude.{◌≡◌, ◌↔◌, ℕ, zero, suc, true, false, nat_le, List, [], length, All, Option, Some, None, IfSome, IsSomeAnd, slice_get, slice_index_or, if◌then◌else◌}
+use Rattle.std.specs.Prelude.{◌≡◌, ◌↔◌, ℕ, zero, suc, ◌≤◌, true, false, List, [], length, All, Option, Some, None, IfSome, IsSomeAnd, slice_get, slice_index_or}
 use Rattle.std.specs.List.{flat_map, range_with_len}
 use Rattle.std.specs.Option.{option_and_then, option_map_or}
 use Rattle.task_graph.specs.NetRows.{NetRows}
 use Rattle.task_graph.specs.Net.{IsNet, chooses}
 use Rattle.task_graph.specs.declared.net.EdgeRow.{EdgeRow}
 use Rattle.task_graph.specs.declared.net.TaskRow.{TaskRow}
-use Rattle.join_words.specs.Ins.{InputValue}
-use Rattle.run_frame.specs.declared.job.Done.{Done}
-use Rattle.run_frame.specs.declared.job.Done.TheVariants.{Value, Inner as InnerJob}
 use Rattle.run_frame.specs.declared.run.FrameRun.{FrameRun}
 use Rattle.run_frame.specs.Legal.{IsKept}
 use Rattle.run_frame.specs.NestedRule.{job_of}
 use Rattle.nested_runs.specs.Reasons.{run_reason}
 use Rattle.nested_runs.specs.declared.reasons.Reason.TheVariants.{Fine}
 use Rattle.run_laws.specs.OneThreadValue.{OneAnswer}
-use Rattle.text_ops.specs.Values.{value_limit}
-use Rattle.graph_plans.specs.PlanRows.{GraphRows, IsPlan, PlanRows, depth_limit}
+use Rattle.graph_plans.specs.Operations.{IsPipePlan}
+use Rattle.graph_plans.specs.PlanRows.{GraphRows, PlanRows, depth_limit}
+use Rattle.pipe_lines.specs.Pipelines.{IsPipeline}
 use Rattle.graph_plans.specs.declared.ops.Op.{Op}
 use Rattle.graph_plans.specs.declared.ops.Op.TheVariants.{Module, Spread, Pipe as PipeOp}
 use Rattle.text_tasks.specs.declared.item.Item.{Item}
-use Rattle.text_tasks.specs.declared.item.Item.TheVariants.{Text, Cell}
 use Rattle.text_tasks.specs.declared.job.TextJob.{TextJob}
 use Rattle.text_tasks.specs.declared.job.TextJob.TheVariants.{Graph, Parts, Pipe}
 use Rattle.text_tasks.specs.GraphWork.{graph_of}
 use Rattle.text_tasks.specs.Items.{item_text}
-use Rattle.text_tasks.specs.JobMeaning.{JobFollows, gathered_text, net_of, names_of, limit_of, task_meaning, text_job}
-use Rattle.text_tasks.specs.OpMeaning.{OpMeaning, hands_over, moves_on, never_passes, runs, too_wide}
+use Rattle.text_tasks.specs.JobMeaning.{JobFollows, gathered_text, net_of, names_of, limit_of, text_job}
 use Rattle.text_tasks.specs.PartsWork.{IsPartsWork}
+use Rattle.text_tasks.specs.PipeWork.{IsPipeWork}
 use Rattle.text_tasks.specs.Sinks.{last_sink}
-use Rattle.run_laws.specs.Output.{report_of, task_report}
+use Rattle.report_laws.specs.Output.{report_of, task_report}
 use Rattle.run_laws.specs.PlainJobs.{PlainJobs, plain_answer, plain_value, runs_through}
-
--- what is done by a meaning: a value that isn't too long, or a job in the task's place; else nothing, and the task faults
-abbrev pub done_by : OpMeaning → Option (Done TextJob Item)
-done_by (hands_over text chosen) = if nat_le (length text) value_limit then Some (Value (Text text) chosen) else None
-done_by (moves_on cell chosen) = if nat_le (length cell.text) value_limit then Some (Value (Cell cell) chosen) else None
-done_by (runs inner) = Some (InnerJob inner)
-done_by (too_wide parts) = None
-done_by (never_passes token) = None
-
--- what a task does on what it finds
-abbrev pub text_does : TextJob → ℕ → List (InputValue Item) → Option (Done TextJob Item)
-text_does job t found = option_and_then done_by (task_meaning job t found)
-
--- a text as a value, where it isn't too long
-abbrev pub as_value : List ℕ → Option Item
-as_value text = if nat_le (length text) value_limit then Some (Text text) else None
-
--- the job is of the top graph of a plan that keeps the rules of plans
-abbrev pub IsPlanned : TextJob → Type 0
-IsPlanned (Graph work) = IsPlan work.plan × (work.«module» ≡ None)
-IsPlanned (Parts work) = ⊥
-IsPlanned (Pipe work) = ⊥
-
--- an operation that is no pipeline
-abbrev pub IsNoPipe : Op → Type 0
-IsNoPipe (PipeOp plan) = ⊥
-IsNoPipe op = Unit {0}
+use Rattle.run_laws.specs.TextAnswers.{IsPlanned, as_value, text_does}
+use Rattle.pipe_values.specs.PipeValue.{pipe_value}
 
 -- Nothing in a graph leaves open what its tasks hand on: none chooses among its successors, and each puts just the
--- semaphores that it takes. None is a pipeline: of those the recursion doesn't speak.
+-- semaphores that it takes.
 pub record IsPlainGraph (graph : GraphRows) : Type 0 where
   pub no_condition : All (λ (row : TaskRow). chooses row.shape ≡ false) graph.net.tasks
   pub returns : All (λ (row : TaskRow). row.takes ≡ row.puts) graph.net.tasks
-  pub no_pipeline : All IsNoPipe graph.ops
 
 -- what holds of the graph of the module, among these, that the task of an operation runs
 abbrev pub OfModule : (Option GraphRows → Type 0) → List GraphRows → Op → Type 0
@@ -76,7 +47,7 @@ abbrev pub UsesPlain : ℕ → PlanRows → GraphRows → Type 0
 UsesPlain zero plan graph = IsPlainGraph graph
 UsesPlain (suc d) plan graph = IsPlainGraph graph × All (OfModule (λ used. IfSome used (UsesPlain d plan)) plan.modules) graph.ops
 
--- a job without conditions and pipelines, also in the modules that it uses
+-- a job without conditions, also in the modules that it uses
 abbrev pub IsPlainJob : TextJob → Type 0
 IsPlainJob (Graph work) = UsesPlain depth_limit work.plan (graph_of work)
 IsPlainJob (Parts work) = ⊥
@@ -84,10 +55,16 @@ IsPlainJob (Pipe work) = ⊥
 
 -- ---- jobs inside jobs
 
+-- an operation whose pipes, if it has some, are a pipeline
+abbrev pub HasSoundPipes : Op → Type 0
+HasSoundPipes (PipeOp plan) = IsPipePlan plan × IsPipeline plan.spec
+HasSoundPipes op = Unit {0}
+
 -- a plain graph whose net is well formed and begins without tokens
 pub record IsSoundGraph (graph : GraphRows) : Type 0 where
   pub is_net : IsNet graph.net
   pub no_first_tokens : All (λ (row : EdgeRow). row.start ≡ false) graph.net.edges
+  pub pipes : All HasSoundPipes graph.ops
   pub plain : IsPlainGraph graph
 
 -- an operation whose task opens no run inside its own
@@ -106,18 +83,24 @@ NestsPlainly (suc d) plan graph = All (OfModule (λ used. IsSomeAnd used (λ g. 
 abbrev pub IsPlainTo : ℕ → TextJob → Type 0
 IsPlainTo d (Graph work) = IsSoundGraph (graph_of work) × NestsPlainly d work.plan (graph_of work)
 IsPlainTo d (Parts work) = IsPartsWork work
-IsPlainTo d (Pipe work) = ⊥
+IsPlainTo d (Pipe work) = IsPipeWork work × (length work.order.passed ≤ length work.parts)
+
+-- A pipeline's net goes round. What it comes to is worked out token by token.
+abbrev pub known_value : TextJob → Option (Option Item)
+known_value (Graph work) = None
+known_value (Parts work) = None
+known_value (Pipe work) = Some (pipe_value work)
 
 -- What text jobs come to.
 abbrev pub text_plain : PlainJobs TextJob Item
 text_plain = record {
   does = text_does;
   gathered = λ job values. as_value (gathered_text job values);
-  alone = λ job. None;
+  alone = known_value;
   is_plain = IsPlainTo;
 }
 
--- the most runs inside runs of a graph file: modules, and a spread in the last of them
+-- the most runs inside runs of a graph file: modules, and a spread or a pipeline in the last of them
 abbrev pub greatest_depth : ℕ
 greatest_depth = 9
 

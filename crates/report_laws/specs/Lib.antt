@@ -1,0 +1,3 @@
+pub mod Output
+pub mod PlainReport
+pub mod SmallPlans
