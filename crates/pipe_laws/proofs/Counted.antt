@@ -6,9 +6,7 @@ use Rattle.std.proofs.lemmas.Bool.Decides.{nat_tests}
 use Rattle.std.proofs.lemmas.Bool.{cases_eq, cases_lt}
 use Rattle.std.proofs.lemmas.List.{length-replicate}
 use Rattle.std.proofs.lemmas.Nat.{mod-mul-add}
-use Rattle.std.proofs.lemmas.Option.{slice_get-get_or}
 use Rattle.task_graph.specs.NetRows.{NetRows}
-use Rattle.task_graph.specs.Net.{strong_in}
 use Rattle.journal_rules.specs.declared.entry.Entry.{Entry}
 use Rattle.journal_rules.specs.declared.entry.Entry.TheVariants.{Start, End, Fault, Drop}
 use Rattle.journal_rules.specs.Counts.{given, is_start, starts, used, start_at}
@@ -26,10 +24,10 @@ use Rattle.run_laws.proofs.Phases.{begins}
 use Rattle.run_laws.proofs.Pipes.{pipes_ringed}
 use Rattle.run_laws.proofs.Rings.{turning_along}
 use Rattle.run_laws.proofs.Steps.{ends_in}
-use Rattle.text_tasks.specs.Cells.{Pipeline, along_pipe, cell_task, pipeline_net}
+use Rattle.text_tasks.specs.Cells.{Pipeline, cell_task, pipeline_net}
 use Rattle.pipe_laws.specs.Turns.{in_pipe}
 use Rattle.pipe_laws.proofs.Edges.{ComesFrom, GoesOn, InEdge, along_line_into, along_pipe_into, goes_round, goes_up, in_edge_below, line_in_edge, pipe_in_edge, tag_is, target_is}
-use Rattle.pipe_laws.proofs.CellTurns.{SignalsAtTurn, place_at, places_rise, signals, signals_at_turn}
+use Rattle.pipe_laws.proofs.CellTurns.{SignalsAtTurn, place_at, signals, signals_at_turn}
 use Rattle.pipe_laws.proofs.CellRuns.{IsCellRun, all_ends, kept}
 use Rattle.pipe_laws.proofs.Through.{end_place, first_counts, given_is, signalled, some_pipes, started, starts_at_place}
 use Rattle.pipe_laws.proofs.Ordered.{cycle}

@@ -42,8 +42,7 @@ const FAULTS: Table = Table {
     {"name":"p","op":"pipe","lines":2,"pipes":[{"serial":true,"op":"pass"},@1],"defer":[@2]}]}"#,
     call: "run g --workers * -> MOST / a|b|c|d| -> tokens@3 -> 9 written, run of 6, a prefix, a prefix [-- p|!! fault p/@4: long 16777218|] [flow: fault p/@4: long 16777218|]",
     rows: r#"{"serial":true,"op":"number"},{"serial":false,"op":"pass"} ->  ->  0 1 2 3 4 -> 0.1
-{"serial":false,"op":"number"},{"serial":true,"op":"pass"} ->  ->  0 1 2 3 4 -> 0.1
-{"serial":true,"op":"number"},{"serial":false,"op":"pass"} -> {"token":0,"to":[1]},{"token":2,"to":[4]} ->  1 0 3 4 2 -> 1.1"#,
+{"serial":false,"op":"number"},{"serial":true,"op":"pass"} -> {"token":0,"to":[1]},{"token":2,"to":[4]} ->  1 0 3 4 2 -> 1.1"#,
 };
 
 // As many parts as there may be, and one more.
