@@ -1,0 +1,114 @@
+-- Plans of any size, made from a number of layers: ten tasks a layer, of which each but the first layer's takes what two
+-- of the layer before hand it; then one that tallies the last layer, a loop, and a pipeline.
+use Rattle.std.specs.Prelude.{ℕ, ◌+◌, ◌-◌, ◌*◌, ◌/◌, ◌%◌, ◌==◌, Bool, true, false, ◌||◌, List, [], ◌∷◌, ◌++◌, map, filter, codes, decimal, if◌then◌else◌}
+use Rattle.std.specs.List.{flat_map, range_with_len}
+use Rattle.task_graph.specs.declared.net.EdgeRow.{EdgeRow}
+use Rattle.task_graph.specs.declared.net.TaskRow.{TaskRow}
+use Rattle.pipe_lines.specs.declared.deferral.DeferRow.{DeferRow}
+use Rattle.pipe_lines.specs.declared.pipeline.PipeSpec.{PipeSpec}
+use Rattle.graph_plans.specs.declared.ops.Op.{Op}
+use Rattle.graph_plans.specs.declared.ops.Op.TheVariants.{Read, Text, IfMore, Pipe}
+use Rattle.graph_plans.specs.declared.ops.TextOp.{TextOp}
+use Rattle.graph_plans.specs.declared.ops.TextOp.TheVariants.{Pass, Keep, Head, Tail, Skip, Sort, Uniq, Tally}
+use Rattle.graph_plans.specs.declared.pipes.LineOp.TheVariants.{Text as LineText, Stamp}
+use Rattle.graph_plans.specs.declared.pipes.PipePlan.{PipePlan}
+use Rattle.graph_plans.specs.Operations.{shape_of}
+use Rattle.graph_plans.specs.PlanRows.{GraphRows, PlanRows}
+use Rattle.graph_generator.specs.Draws.{draw}
+
+-- ---- the layers: task t is number t % 10 of layer t / 10
+
+-- how many tasks a layer has
+abbrev pub layer_width : ℕ
+layer_width = 10
+
+-- how many draws the text takes and, for each task behind the first layer, its operation and its second predecessor
+abbrev pub op_draw : ℕ → ℕ → ℕ
+op_draw seed t = draw seed (180 + 2 * t)
+
+abbrev pub edge_draw : ℕ → ℕ → ℕ
+edge_draw seed t = draw seed (181 + 2 * t)
+
+abbrev pub layer_name : ℕ → List ℕ
+layer_name t = codes "g" ++ decimal (t / 10) ++ codes "_" ++ decimal (t % 10)
+
+-- in odd layers the first lines or the last ones
+abbrev pub odd_op : ℕ → TextOp
+odd_op d = if d % 2 == 0 then Head 100 else Tail 100
+
+-- in even layers the lines in order, without repetitions, or those with a 1
+abbrev pub even_op : ℕ → TextOp
+even_op d = if d % 3 == 0 then Sort else if d % 3 == 1 then Uniq else Keep (codes "1")
+
+-- what a task does, by its draw; the first layer reads the text
+abbrev pub layer_op : ℕ → ℕ → Op
+layer_op t d = if t / 10 == 0 then Read 0 else Text (if t / 10 % 2 == 1 then odd_op d else even_op d)
+
+-- of the layer before a task, the other one that hands it something, beside the one of its own number, by its draw
+abbrev pub other_before : ℕ → ℕ → ℕ
+other_before t d = 10 * (t / 10 - 1) + (t % 10 + (d % 9 + 1)) % 10
+
+-- whether a task hands something to this one of the next layer, by that one's draw
+abbrev pub leads_to : ℕ → ℕ → ℕ → Bool
+leads_to t next d = (next == t + 10) || (other_before next d == t)
+
+-- the tasks to which one of a layer hands something: some of the next layer, or, in the last one, the tally
+abbrev pub next_tasks : ℕ → ℕ → List ℕ
+next_tasks layers t =
+    if t / 10 + 1 == layers then (10 * layers) ∷ [] else filter (λ next. leads_to t next (edge_draw layers next)) (range_with_len (10 * (t / 10 + 1)) 10)
+
+-- ---- behind them
+
+-- 200 tokens over four lines, of which one waits for another and that for a third
+abbrev pub generated_pipeline : PipePlan
+generated_pipeline = record {
+  spec = record { lines = 4; serial = true ∷ false ∷ true ∷ [] };
+  ops = LineText Pass ∷ LineText (Keep (codes "w")) ∷ Stamp ∷ [];
+  chunk = 1;
+  defers = record { token = 1; to = 3 ∷ [] } ∷ record { token = 2; to = 1 ∷ [] } ∷ [];
+}
+
+abbrev pub last_names : List (List ℕ)
+last_names = codes "sum" ∷ codes "init" ∷ codes "body" ∷ codes "more" ∷ codes "done" ∷ codes "pr" ∷ codes "pp" ∷ []
+
+-- A tally; a loop that cuts a text to ten lines, one by one; a pipeline.
+abbrev pub last_ops : List Op
+last_ops = Text Tally ∷ Read 0 ∷ Text (Skip 1) ∷ IfMore 10 ∷ Text Pass ∷ Read 0 ∷ Pipe generated_pipeline ∷ []
+
+abbrev pub edge : ℕ → ℕ → EdgeRow
+edge from to = record { from = from; to = to; start = false }
+
+-- the edges of the loop and of the pipeline, where the tally has this number
+abbrev pub last_edges : ℕ → List EdgeRow
+last_edges sum = edge (sum + 1) (sum + 2) ∷ edge (sum + 2) (sum + 3) ∷ edge (sum + 3) (sum + 2) ∷ edge (sum + 3) (sum + 4) ∷ edge (sum + 5) (sum + 6) ∷ []
+
+-- ---- all together
+
+abbrev pub generated_names : ℕ → List (List ℕ)
+generated_names layers = map layer_name (range_with_len 0 (10 * layers)) ++ last_names
+
+abbrev pub generated_ops : ℕ → List Op
+generated_ops layers = map (λ t. layer_op t (op_draw layers t)) (range_with_len 0 (10 * layers)) ++ last_ops
+
+abbrev pub layer_edges : ℕ → ℕ → List EdgeRow
+layer_edges layers t = map (edge t) (next_tasks layers t)
+
+abbrev pub generated_edges : ℕ → List EdgeRow
+generated_edges layers = flat_map (layer_edges layers) (range_with_len 0 (10 * layers)) ++ last_edges (10 * layers)
+
+abbrev pub generated_row : Op → TaskRow
+generated_row op = record { shape = shape_of op; takes = []; puts = [] }
+
+-- the plan of so many layers
+abbrev pub generated_plan : ℕ → PlanRows
+generated_plan layers = record {
+  top = record {
+    name = [];
+    names = generated_names layers;
+    ops = generated_ops layers;
+    sem_names = [];
+    net = record { tasks = map generated_row (generated_ops layers); edges = generated_edges layers; sems = [] };
+  };
+  modules = [];
+  texts = codes "gen.txt" ∷ [];
+}

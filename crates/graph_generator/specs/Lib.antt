@@ -1,0 +1,4 @@
+pub mod inside
+pub mod Draws
+pub mod GeneratedText
+pub mod GeneratedPlan
