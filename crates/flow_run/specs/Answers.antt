@@ -7,7 +7,7 @@ use Rattle.call_status.specs.declared.status.Status.{Status}
 use Rattle.call_status.specs.declared.status.Status.TheVariants.{Done, BadWords, WriteFault, NoMemory}
 use Rattle.call_status.specs.Statuses.{status_after}
 use Rattle.call_status.specs.Stopping.{StoppedBefore}
-use Rattle.command_line.specs.Requests.{Asked, AskedRounds, asked_by, run, profile, judge, check, upgrade}
+use Rattle.command_line.specs.Requests.{Asked, AskedRounds, asked_by, once, run, profile, judge, check, upgrade, generate}
 use Rattle.nested_runs.specs.Rounds.{AreAllRounds, AreFirstRounds}
 use Rattle.nested_runs.specs.declared.reasons.Reason.{Reason}
 use Rattle.nested_runs.specs.declared.reasons.Reason.TheVariants as reason
@@ -16,6 +16,7 @@ use Rattle.flow_run.specs.declared.conclusion.GraphProfile.{GraphProfile}
 use Rattle.flow_run.specs.declared.conclusion.Conclusion.TheVariants.{Profile, Verdict, Findings, GraphFile}
 use Rattle.flow_run.specs.Requests.{SourceTexts, IsRequestedJob, StopsBefore}
 use Rattle.flow_run.specs.RoundTexts.{last_reason, round_rule, rounds_text}
+use Rattle.flow_run.specs.Generated.{IsGeneratedJob, summaries_text}
 pub use Rattle.flow_run.specs.RoundTexts.{TextRun}
 use Rattle.flow_run.specs.Profiles.{IsProfileOf, graph_profile_text}
 use Rattle.flow_run.specs.Judgements.{JudgeEnds, verdict_line}
@@ -56,8 +57,13 @@ pub record RanProfile (IsJob : TextJob → Type 0) (rounds : AskedRounds) (statu
 abbrev pub ProfileEnds : SourceTexts → List ℕ → ℕ → AskedRounds → Status → List TextRun → Option Conclusion → Type 0
 ProfileEnds held file limit rounds status runs concluded = StoppedBefore (StopsBefore held file) status ((runs ≡ []) × (concluded ≡ None)) ⊎ RanProfile (IsRequestedJob held file limit) rounds status runs concluded
 
+-- How a call ends that is to run a generated graph: without memory before a run, or after the run.
+abbrev pub GenerateEnds : ℕ → Status → List TextRun → Type 0
+GenerateEnds layers status runs = ((status ≡ NoMemory) × (runs ≡ [])) ⊎ RanRounds (IsGeneratedJob layers) once status runs
+
 -- How a call ends: the command line asks for a run of a file, or for its profile, or for a judgement of a journal, or for a
--- check of a graph, or for an upgrade of its file, or for nothing, or there is no memory to read it.
+-- check of a graph, or for an upgrade of its file, or for nothing, or there is no memory to read it, or it asks for a run
+-- of a generated graph.
 abbrev pub CallEnds : SourceTexts → List (List ℕ) → Status → List TextRun → Option Conclusion → Type 0
 CallEnds held arguments status runs conclusion =
     ((file : List ℕ) × (limit : ℕ) × (workers : ℕ) × (rounds : AskedRounds) × (journal : Bool) × (asked_by arguments ≡ Some (run file limit workers rounds journal)) × RunEnds held file limit rounds status runs × (conclusion ≡ None))
@@ -67,10 +73,13 @@ CallEnds held arguments status runs conclusion =
     ⊎ ((file : List ℕ) × (asked_by arguments ≡ Some (upgrade file)) × UpgradeEnds held file status conclusion × (runs ≡ []))
     ⊎ ((status ≡ BadWords) × (runs ≡ []) × (conclusion ≡ None) × (asked_by arguments ≡ None))
     ⊎ ((status ≡ NoMemory) × (runs ≡ []) × (conclusion ≡ None))
+    ⊎ ((layers : ℕ) × (workers : ℕ) × (asked_by arguments ≡ Some (generate layers workers)) × GenerateEnds layers status runs × (conclusion ≡ None))
 
--- what is written of the runs that are kept: their reports or journals, where a run is asked for
+-- what is written of the runs that are kept: their reports or journals, where a run is asked for; of a generated graph's run
+-- its summary
 abbrev pub runs_text : Option Asked → List TextRun → List ℕ
 runs_text (Some (run file limit workers rounds journal)) runs = rounds_text rounds journal runs
+runs_text (Some (generate layers workers)) runs = summaries_text layers runs
 runs_text asked runs = []
 
 -- what is written of a conclusion, if there is one

@@ -8,6 +8,7 @@ pub mod RoundTexts
 pub mod PlainRounds
 pub mod PlainProfiles
 pub mod Profiles
+pub mod Generated
 pub mod Watched
 pub mod Answers
 pub mod Completion

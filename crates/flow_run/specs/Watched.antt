@@ -1,6 +1,6 @@
 -- What the watchers of a call were told.
 use Rattle.std.specs.Prelude.{◌≡◌, ◌≢◌, ℕ, List, [], take, drop, length, Option, Some}
-use Rattle.command_line.specs.Requests.{Asked, run, profile}
+use Rattle.command_line.specs.Requests.{Asked, run, profile, generate}
 use Rattle.topology_runs.specs.Told.{AreToldRounds}
 use Rattle.flow_run.specs.RoundTexts.{TextRun}
 
@@ -8,6 +8,7 @@ use Rattle.flow_run.specs.RoundTexts.{TextRun}
 abbrev pub asked_workers : Option Asked → ℕ
 asked_workers (Some (run file limit workers rounds journal)) = workers
 asked_workers (Some (profile file limit workers rounds)) = workers
+asked_workers (Some (generate layers workers)) = workers
 asked_workers asked = 0
 
 -- Watchers, before and after rounds by so many workers. The first of them, one a worker, were together told as many spans as the

@@ -21,6 +21,7 @@ ghost use Rattle.text_tasks.specs.declared.job.TextJob.{TextJob};
 
 use super::check_command::check_file;
 use super::conclusion::Conclusion;
+use super::generate_command::run_generated;
 use super::judge_command::judge_file;
 use super::profile_command::profile_file;
 use super::run_command::run_file;
@@ -69,7 +70,8 @@ impl CallResult {
 /// round, each with what the last task of the round before ended with as its input, and once all are run writes what it
 /// would of each; `profile FILE` runs it so too, and writes a table of what each task did; `judge FILE JOURNAL` reads the
 /// journal file of that name besides, and writes the judge's verdict; `check FILE` writes how the graph can go wrong;
-/// `upgrade FILE` writes the graph as a file of the newest version. The line of the status goes to `notes`, the
+/// `upgrade FILE` writes the graph as a file of the newest version; `generate N` runs the generated graph of so many layers,
+/// and writes its summary. The line of the status goes to `notes`, the
 /// diagnostics sink. Each worker tells a watcher the spans that end in its steps, the first worker the first watcher. There
 /// are no more workers than watchers, but for one where there is none. A watcher that answers `NoMemory` ends the call so.
 /// `rt` makes the threads of several workers and waits for them, so it isn't proved that the call returns.
@@ -181,6 +183,7 @@ fn answer<F: Texts, S: Sink, R: Threads + Wait + Sync>(
         Ok(Request::Judge(judge)) => judge_file(alloc, judge, texts, out),
         Ok(Request::Check(check)) => check_file(alloc, check, texts, out),
         Ok(Request::Upgrade(upgrade)) => upgrade_file(alloc, upgrade, texts, out),
+        Ok(Request::Generate(asked)) => run_generated(rt, alloc, asked, out, watchers),
         Err(ArgumentsError::Refused) => stopped(alloc, Status::BadWords),
         Err(ArgumentsError::NoMemory) => stopped(alloc, Status::NoMemory),
     }

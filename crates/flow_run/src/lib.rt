@@ -15,6 +15,7 @@ mod call;
 mod check_command;
 mod conclusion;
 mod fronts;
+mod generate_command;
 mod inputs;
 mod judge_command;
 mod profile_command;

@@ -79,7 +79,7 @@ fn run_and_count<S: Sink, R: Threads + Wait + Sync>(
     let Ok(names) = copies(alloc, job.names()) else {
         return stopped(alloc, Status::NoMemory);
     };
-    let ran = run_rounds(rt, alloc, asked, job, watchers);
+    let ran = run_rounds(rt, alloc, asked.workers, asked.rounds, job, watchers);
     if failed_at_once(&ran) {
         return after_runs(ran.runs, Status::NoMemory, true);
     }

@@ -81,8 +81,12 @@ fn put_tasks<S: Sink>(alloc: Global, out: &mut S, run: &FrameRun<TextJob>) -> Re
     Ok(())
 }
 
-// The value of a task's last End.
-fn last_value<'a>(ends: &[Option<u64>], values: &'a [ValueRow<Item>], task: u32) -> Option<&'a Item>
+/// The value of a task's last End.
+pub(crate) fn last_value<'a>(
+    ends: &[Option<u64>],
+    values: &'a [ValueRow<Item>],
+    task: u32,
+) -> Option<&'a Item>
     requires task { task < length ends.now }
     requires rising { AreRising values.now }
     ensures { option_copied result

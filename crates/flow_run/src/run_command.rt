@@ -16,7 +16,7 @@ use super::report::put_report;
 use super::round_ends::{after_runs, last_reason, status_of_rounds};
 use super::workers::{RoundsRun, run_rounds};
 use call_status::{Status, flushed};
-use command_line::{Rounds, Run};
+use command_line::{Rounds, Run, RunOptions};
 use journal_text::print_journal;
 use nested_runs::reason_of;
 use outside_io::{Bytes, List, NoMemory, Sink, SinkFault, Texts, add_numbered, put_piece};
@@ -70,7 +70,12 @@ fn run_and_report<S: Sink, R: Threads + Wait + Sync>(
     ensures watchers { HaveSeen told asked.entry.options.workers (result.status ≢ Status.NoMemory)
         result.runs watchers.old.items watchers.new.items }
 {
-    let RoundsRun { runs, whole } = run_rounds(rt, alloc, asked.options, job, watchers);
+    let RunOptions {
+        workers,
+        rounds,
+        ..
+    } = asked.options;
+    let RoundsRun { runs, whole } = run_rounds(rt, alloc, workers, rounds, job, watchers);
     let Ok(reason) = last_reason(alloc, runs.as_slice()) else {
         let written = runs.is_empty();
         return after_runs(runs, Status::NoMemory, written);

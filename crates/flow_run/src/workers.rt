@@ -11,7 +11,7 @@ ghost use Rattle.flow_run.specs.RoundTexts.{last_has, round_rule};
 ghost use Rattle.flow_run.specs.Watched.{HaveSeen};
 
 use super::fronts::{put_front, take_front};
-use command_line::{GREATEST_TIMES, Rounds, RunOptions};
+use command_line::{GREATEST_TIMES, Rounds};
 use outside_io::{Back, List};
 use run_frame::FrameRun;
 use span_profile::Watch;
@@ -30,7 +30,7 @@ pub(crate) struct RoundsRun {
     pub whole: bool,
 }
 
-/// Runs the rounds of a job that are asked for, by as many workers as are asked for, or by as many as there are watchers,
+/// Runs the rounds of a job that are asked for, by so many workers, or by as many as there are watchers,
 /// where these are fewer. A single worker is the caller's thread, which needs no lock; several are a crew, whose seats
 /// are entered by threads. Each worker tells its watcher, the first one the first, and in the end they are where they
 /// were.
@@ -38,18 +38,19 @@ pub(crate) struct RoundsRun {
 pub(crate) fn run_rounds<R: Threads + Wait + Sync>(
     rt: &R,
     alloc: Global,
-    asked: RunOptions<'_>,
+    workers: u32,
+    rounds: Rounds<'_>,
     job: TextJob,
     watchers: &mut Vec<Box<dyn Watch + Send>>,
 ) -> RoundsRun
     requires { IsGraphJob job }
-    ensures first { AreFirstRounds text_job job (round_rule (asked_rounds asked.entry.rounds)) result.runs }
+    ensures first { AreFirstRounds text_job job (round_rule (asked_rounds rounds.entry)) result.runs }
     ensures all { IsTrue result.whole
-        → AreAllRounds text_job job (round_rule (asked_rounds asked.entry.rounds)) result.runs }
-    ensures watchers { HaveSeen told asked.entry.workers (IsTrue result.whole) result.runs
+        → AreAllRounds text_job job (round_rule (asked_rounds rounds.entry)) result.runs }
+    ensures watchers { HaveSeen told workers (IsTrue result.whole) result.runs
         watchers.old.items watchers.new.items }
 {
-    let seats = watchers.len().min(asked.workers as usize);
+    let seats = watchers.len().min(workers as usize);
     let Ok(job) = Arc::new(alloc, job) else {
         return no_rounds(alloc);
     };
@@ -61,7 +62,7 @@ pub(crate) fn run_rounds<R: Threads + Wait + Sync>(
     };
     match Team::new(alloc, take_front(watchers, seats, front)) {
         Ok(mut team) => {
-            let ran = rounds_by(rt, alloc, &mut team, &job, asked.rounds);
+            let ran = rounds_by(rt, alloc, &mut team, &job, rounds);
             put_front(watchers, team.into_watchers(back));
             ran
         }
