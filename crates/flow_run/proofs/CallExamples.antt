@@ -15,7 +15,7 @@ use Rattle.call_status.specs.declared.status.Status.{Status}
 use Rattle.call_status.specs.declared.status.Status.TheVariants.{Done, BadWords, NoText, WriteFault, TaskFault, Limit, Stuck, NoMemory}
 use Rattle.call_status.specs.declared.stop.Stop.{Stop}
 use Rattle.call_status.specs.declared.stop.Stop.TheVariants as stop
-use Rattle.command_line.specs.Requests.{asked_by, once, run as run_of, profile as profile_of, judge as judge_of, check as check_of, upgrade as upgrade_of}
+use Rattle.command_line.specs.Requests.{asked_by, once, run as run_of, profile as profile_of, judge as judge_of, check as check_of, upgrade as upgrade_of, generate as generate_of}
 use Rattle.legal_run.specs.declared.verdict.Verdict.TheVariants.{Complete as Finished}
 use Rattle.flow_run.specs.declared.conclusion.Conclusion.TheVariants as conclusion
 use Rattle.flow_run.specs.declared.conclusion.GraphFindings.{GraphFindings}
@@ -263,7 +263,8 @@ asked arguments asks (inr (inr (inl (file, name, limit, asks_judge, ends, none))
 asked arguments asks (inr (inr (inr (inl (file, asks_check, ends, none))))) = let never : Some (run_of g 77 4 once false) ≡ Some (check_of file) = sym asks ∙ asks_check in absurd (cc)
 asked arguments asks (inr (inr (inr (inr (inl (file, asks_upgrade, ends, none)))))) = let never : Some (run_of g 77 4 once false) ≡ Some (upgrade_of file) = sym asks ∙ asks_upgrade in absurd (cc)
 asked arguments asks (inr (inr (inr (inr (inr (inl (same, none, nothing, refused))))))) = let never : Some (run_of g 77 4 once false) ≡ None = sym asks ∙ refused in absurd (cc)
-asked arguments asks (inr (inr (inr (inr (inr (inr (same, none, nothing))))))) = absurd (cc)
+asked arguments asks (inr (inr (inr (inr (inr (inr (inl (same, none, nothing)))))))) = absurd (cc)
+asked arguments asks (inr (inr (inr (inr (inr (inr (inr (layers, hands, asks_generate, ends, none)))))))) = let never : Some (run_of g 77 4 once false) ≡ Some (generate_of layers hands) = sym asks ∙ asks_generate in absurd (cc)
 
 asked_to_judge : (arguments : List (List ℕ)) → asked_by arguments ≡ Some (judge_of g t 77) → ¬ CallEnds held arguments BadWords [] None
 asked_to_judge arguments asks (inl (file, limit, workers, rounds, journal, asks_file, ends, none)) = let never : Some (judge_of g t 77) ≡ Some (run_of file limit workers rounds journal) = sym asks ∙ asks_file in absurd (cc)
@@ -273,7 +274,8 @@ asked_to_judge arguments asks (inr (inr (inl (file, name, limit, asks_judge, inr
 asked_to_judge arguments asks (inr (inr (inr (inl (file, asks_check, ends, none))))) = let never : Some (judge_of g t 77) ≡ Some (check_of file) = sym asks ∙ asks_check in absurd (cc)
 asked_to_judge arguments asks (inr (inr (inr (inr (inl (file, asks_upgrade, ends, none)))))) = let never : Some (judge_of g t 77) ≡ Some (upgrade_of file) = sym asks ∙ asks_upgrade in absurd (cc)
 asked_to_judge arguments asks (inr (inr (inr (inr (inr (inl (same, none, nothing, refused))))))) = let never : Some (judge_of g t 77) ≡ None = sym asks ∙ refused in absurd (cc)
-asked_to_judge arguments asks (inr (inr (inr (inr (inr (inr (same, none, nothing))))))) = absurd (cc)
+asked_to_judge arguments asks (inr (inr (inr (inr (inr (inr (inl (same, none, nothing)))))))) = absurd (cc)
+asked_to_judge arguments asks (inr (inr (inr (inr (inr (inr (inr (layers, hands, asks_generate, ends, none)))))))) = let never : Some (judge_of g t 77) ≡ Some (generate_of layers hands) = sym asks ∙ asks_generate in absurd (cc)
 
 asked_to_check : (arguments : List (List ℕ)) → asked_by arguments ≡ Some (check_of g) → ¬ CallEnds held arguments BadWords [] None
 asked_to_check arguments asks (inl (file, limit, workers, rounds, journal, asks_file, ends, none)) = let never : Some (check_of g) ≡ Some (run_of file limit workers rounds journal) = sym asks ∙ asks_file in absurd (cc)
@@ -283,7 +285,8 @@ asked_to_check arguments asks (inr (inr (inr (inl (file, asks_check, inl stopped
 asked_to_check arguments asks (inr (inr (inr (inl (file, asks_check, inr ended, none))))) = let only : None ≡ Some (conclusion.Findings ended.found) = ended.only in absurd (cc)
 asked_to_check arguments asks (inr (inr (inr (inr (inl (file, asks_upgrade, ends, none)))))) = let never : Some (check_of g) ≡ Some (upgrade_of file) = sym asks ∙ asks_upgrade in absurd (cc)
 asked_to_check arguments asks (inr (inr (inr (inr (inr (inl (same, none, nothing, refused))))))) = let never : Some (check_of g) ≡ None = sym asks ∙ refused in absurd (cc)
-asked_to_check arguments asks (inr (inr (inr (inr (inr (inr (same, none, nothing))))))) = absurd (cc)
+asked_to_check arguments asks (inr (inr (inr (inr (inr (inr (inl (same, none, nothing)))))))) = absurd (cc)
+asked_to_check arguments asks (inr (inr (inr (inr (inr (inr (inr (layers, hands, asks_generate, ends, none)))))))) = let never : Some (check_of g) ≡ Some (generate_of layers hands) = sym asks ∙ asks_generate in absurd (cc)
 
 asked_to_upgrade : (arguments : List (List ℕ)) → asked_by arguments ≡ Some (upgrade_of g) → ¬ CallEnds held arguments BadWords [] None
 asked_to_upgrade arguments asks (inl (file, limit, workers, rounds, journal, asks_file, ends, none)) = let never : Some (upgrade_of g) ≡ Some (run_of file limit workers rounds journal) = sym asks ∙ asks_file in absurd (cc)
@@ -293,7 +296,8 @@ asked_to_upgrade arguments asks (inr (inr (inr (inl (file, asks_check, ends, non
 asked_to_upgrade arguments asks (inr (inr (inr (inr (inl (file, asks_upgrade, inl stopped, none)))))) = never_bad stopped.why stopped.reported
 asked_to_upgrade arguments asks (inr (inr (inr (inr (inl (file, asks_upgrade, inr ended, none)))))) = let only : None ≡ Some (conclusion.GraphFile ended.text) = ended.only in absurd (cc)
 asked_to_upgrade arguments asks (inr (inr (inr (inr (inr (inl (same, none, nothing, refused))))))) = let never : Some (upgrade_of g) ≡ None = sym asks ∙ refused in absurd (cc)
-asked_to_upgrade arguments asks (inr (inr (inr (inr (inr (inr (same, none, nothing))))))) = absurd (cc)
+asked_to_upgrade arguments asks (inr (inr (inr (inr (inr (inr (inl (same, none, nothing)))))))) = absurd (cc)
+asked_to_upgrade arguments asks (inr (inr (inr (inr (inr (inr (inr (layers, hands, asks_generate, ends, none)))))))) = let never : Some (upgrade_of g) ≡ Some (generate_of layers hands) = sym asks ∙ asks_generate in absurd (cc)
 
 refused : (arguments : List (List ℕ)) → asked_by arguments ≡ None → CallEnds held arguments BadWords [] None
 refused arguments none = inr (inr (inr (inr (inr (inl (refl, refl, refl, none))))))
@@ -307,7 +311,8 @@ module _ (arguments : List (List ℕ)) (nothing : asked_by arguments ≡ None) w
   run_of_nothing told run (inr (inr (inr (inl (file, asks_check, ends, none))))) = let never : None ≡ Some (check_of file) = sym nothing ∙ asks_check in absurd (cc)
   run_of_nothing told run (inr (inr (inr (inr (inl (file, asks_upgrade, ends, none)))))) = let never : None ≡ Some (upgrade_of file) = sym nothing ∙ asks_upgrade in absurd (cc)
   run_of_nothing told run (inr (inr (inr (inr (inr (inl (same, none, untold, refused))))))) = absurd (omega (arith, ap length none))
-  run_of_nothing told run (inr (inr (inr (inr (inr (inr (same, none, untold))))))) = absurd (omega (arith, ap length none))
+  run_of_nothing told run (inr (inr (inr (inr (inr (inr (inl (same, none, untold)))))))) = absurd (omega (arith, ap length none))
+  run_of_nothing told run (inr (inr (inr (inr (inr (inr (inr (layers, hands, asks_generate, ends, none)))))))) = let never : None ≡ Some (generate_of layers hands) = sym nothing ∙ asks_generate in absurd (cc)
 
   conclusion_of_nothing : (told : Status) → ¬ CallEnds held arguments told [] (Some (conclusion.Verdict Finished))
   conclusion_of_nothing told (inl (file, limit, workers, rounds, journal, asks_file, ends, none)) = let never : None ≡ Some (run_of file limit workers rounds journal) = sym nothing ∙ asks_file in absurd (cc)
@@ -316,7 +321,8 @@ module _ (arguments : List (List ℕ)) (nothing : asked_by arguments ≡ None) w
   conclusion_of_nothing told (inr (inr (inr (inl (file, asks_check, ends, none))))) = let never : None ≡ Some (check_of file) = sym nothing ∙ asks_check in absurd (cc)
   conclusion_of_nothing told (inr (inr (inr (inr (inl (file, asks_upgrade, ends, none)))))) = let never : None ≡ Some (upgrade_of file) = sym nothing ∙ asks_upgrade in absurd (cc)
   conclusion_of_nothing told (inr (inr (inr (inr (inr (inl (same, none, untold, refused))))))) = absurd (cc)
-  conclusion_of_nothing told (inr (inr (inr (inr (inr (inr (same, none, untold))))))) = absurd (cc)
+  conclusion_of_nothing told (inr (inr (inr (inr (inr (inr (inl (same, none, untold)))))))) = absurd (cc)
+  conclusion_of_nothing told (inr (inr (inr (inr (inr (inr (inr (layers, hands, asks_generate, ends, none)))))))) = let never : None ≡ Some (generate_of layers hands) = sym nothing ∙ asks_generate in absurd (cc)
 
 -- A run has no conclusion, and a judgement, a check and an upgrade keep no run.
 module _ (arguments : List (List ℕ)) where
@@ -327,7 +333,8 @@ module _ (arguments : List (List ℕ)) where
   verdict_on_a_run asks (inr (inr (inr (inl (file, asks_check, ends, none))))) = let never : Some (run_of g 77 4 once false) ≡ Some (check_of file) = sym asks ∙ asks_check in absurd (cc)
   verdict_on_a_run asks (inr (inr (inr (inr (inl (file, asks_upgrade, ends, none)))))) = let never : Some (run_of g 77 4 once false) ≡ Some (upgrade_of file) = sym asks ∙ asks_upgrade in absurd (cc)
   verdict_on_a_run asks (inr (inr (inr (inr (inr (inl (same, none, nothing, refused))))))) = absurd (cc)
-  verdict_on_a_run asks (inr (inr (inr (inr (inr (inr (same, none, nothing))))))) = absurd (cc)
+  verdict_on_a_run asks (inr (inr (inr (inr (inr (inr (inl (same, none, nothing)))))))) = absurd (cc)
+  verdict_on_a_run asks (inr (inr (inr (inr (inr (inr (inr (layers, hands, asks_generate, ends, none)))))))) = let never : Some (run_of g 77 4 once false) ≡ Some (generate_of layers hands) = sym asks ∙ asks_generate in absurd (cc)
 
   run_of_a_judgement : (run : TextRun) → asked_by arguments ≡ Some (judge_of g t 77) → ¬ CallEnds held arguments Done (run ∷ []) None
   run_of_a_judgement run asks (inl (file, limit, workers, rounds, journal, asks_file, ends, none)) = let never : Some (judge_of g t 77) ≡ Some (run_of file limit workers rounds journal) = sym asks ∙ asks_file in absurd (cc)
@@ -336,7 +343,8 @@ module _ (arguments : List (List ℕ)) where
   run_of_a_judgement run asks (inr (inr (inr (inl (file, asks_check, ends, none))))) = absurd (cc)
   run_of_a_judgement run asks (inr (inr (inr (inr (inl (file, asks_upgrade, ends, none)))))) = absurd (cc)
   run_of_a_judgement run asks (inr (inr (inr (inr (inr (inl (same, none, nothing, refused))))))) = absurd (cc)
-  run_of_a_judgement run asks (inr (inr (inr (inr (inr (inr (same, none, nothing))))))) = absurd (cc)
+  run_of_a_judgement run asks (inr (inr (inr (inr (inr (inr (inl (same, none, nothing)))))))) = absurd (cc)
+  run_of_a_judgement run asks (inr (inr (inr (inr (inr (inr (inr (layers, hands, asks_generate, ends, none)))))))) = let never : Some (judge_of g t 77) ≡ Some (generate_of layers hands) = sym asks ∙ asks_generate in absurd (cc)
 
   run_of_a_check : (run : TextRun) (found : List GraphFindings) → asked_by arguments ≡ Some (check_of g) → ¬ CallEnds held arguments Done (run ∷ []) (Some (conclusion.Findings found))
   run_of_a_check run found asks (inl (file, limit, workers, rounds, journal, asks_file, ends, none)) = absurd (cc)
@@ -345,7 +353,8 @@ module _ (arguments : List (List ℕ)) where
   run_of_a_check run found asks (inr (inr (inr (inl (file, asks_check, ends, none))))) = absurd (cc)
   run_of_a_check run found asks (inr (inr (inr (inr (inl (file, asks_upgrade, ends, none)))))) = absurd (cc)
   run_of_a_check run found asks (inr (inr (inr (inr (inr (inl (same, none, nothing, refused))))))) = absurd (cc)
-  run_of_a_check run found asks (inr (inr (inr (inr (inr (inr (same, none, nothing))))))) = absurd (cc)
+  run_of_a_check run found asks (inr (inr (inr (inr (inr (inr (inl (same, none, nothing)))))))) = absurd (cc)
+  run_of_a_check run found asks (inr (inr (inr (inr (inr (inr (inr (layers, hands, asks_generate, ends, none)))))))) = let never : Some (check_of g) ≡ Some (generate_of layers hands) = sym asks ∙ asks_generate in absurd (cc)
 
   run_of_an_upgrade : (run : TextRun) (text : List ℕ) → asked_by arguments ≡ Some (upgrade_of g) → ¬ CallEnds held arguments Done (run ∷ []) (Some (conclusion.GraphFile text))
   run_of_an_upgrade run text asks (inl (file, limit, workers, rounds, journal, asks_file, ends, none)) = absurd (cc)
@@ -354,7 +363,8 @@ module _ (arguments : List (List ℕ)) where
   run_of_an_upgrade run text asks (inr (inr (inr (inl (file, asks_check, ends, none))))) = absurd (cc)
   run_of_an_upgrade run text asks (inr (inr (inr (inr (inl (file, asks_upgrade, ends, none)))))) = absurd (cc)
   run_of_an_upgrade run text asks (inr (inr (inr (inr (inr (inl (same, none, nothing, refused))))))) = absurd (cc)
-  run_of_an_upgrade run text asks (inr (inr (inr (inr (inr (inr (same, none, nothing))))))) = absurd (cc)
+  run_of_an_upgrade run text asks (inr (inr (inr (inr (inr (inr (inl (same, none, nothing)))))))) = absurd (cc)
+  run_of_an_upgrade run text asks (inr (inr (inr (inr (inr (inr (inr (layers, hands, asks_generate, ends, none)))))))) = let never : Some (upgrade_of g) ≡ Some (generate_of layers hands) = sym asks ∙ asks_generate in absurd (cc)
 
 -- What has been done to a sink of memory when the call ends.
 abbrev sink : List ℕ → ℕ → SinkState

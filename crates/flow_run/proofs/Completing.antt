@@ -22,7 +22,7 @@ use Rattle.text_tasks.specs.JobMeaning.{text_job}
 use Rattle.call_status.specs.Statuses.{status_of}
 use Rattle.call_status.specs.Statuses.{status_after}
 use Rattle.flow_run.specs.declared.conclusion.Conclusion.{Conclusion}
-use Rattle.flow_run.specs.Answers.{TextRun, IsAfterRun, RunEnds, CallEnds}
+use Rattle.flow_run.specs.Answers.{TextRun, GenerateEnds, IsAfterRun, RunEnds, CallEnds}
 use Rattle.flow_run.specs.Completion.{IsAtHand}
 use Rattle.flow_run.specs.RoundTexts.{last_reason}
 use Rattle.flow_run.proofs.RoundLemmas.{last_fine, run_of_profile}
@@ -213,10 +213,13 @@ module _ (status : Status) (read : (n : List ℕ) → status ≢ ReadFault n) (w
       inr (stopped.reported ∙ ap status_of (never_before_plan text file can.plan stopped.why can.graph stopped.stops (not_at_read stopped.why stopped.reported)))
   upgrade_completes (Some text) file concluded can (inr ended) = after_plan ended.after
 
+  generate_completes : (layers : ℕ) (runs : List TextRun) → All (λ run. run_reason text_job run ≡ Fine) runs → GenerateEnds layers status runs → (status ≡ Done) ⊎ (status ≡ NoMemory)
+  generate_completes layers runs fine (inl stopped) = inr stopped.0
+  generate_completes layers runs fine (inr ran) = after_run (last_reason runs) status (last_fine runs fine) ran.after write
+
   -- Where nothing is asked for, nothing is at hand.
   none_at_hand : (held : SourceTexts) → IsAtHand held None → ⊥
-  none_at_hand None hand = hand
-  none_at_hand (Some text) hand = hand
+  none_at_hand held hand = hand
 
   -- What is at hand and meets no failure is done.
   pub completes : (held : SourceTexts) (arguments : List (List ℕ)) (runs : List TextRun) (concluded : Option Conclusion) → CallEnds held arguments status runs concluded
@@ -227,4 +230,5 @@ module _ (status : Status) (read : (n : List ℕ) → status ≢ ReadFault n) (w
   completes held arguments runs concluded (inr (inr (inr (inl (file, asks, ends, none))))) hand fine = check_completes held file concluded (subst (IsAtHand held) asks hand) ends
   completes held arguments runs concluded (inr (inr (inr (inr (inl (file, asks, ends, none)))))) hand fine = upgrade_completes held file concluded (subst (IsAtHand held) asks hand) ends
   completes held arguments runs concluded (inr (inr (inr (inr (inr (inl (same, none, nothing, never))))))) hand fine = absurd (none_at_hand held (subst (IsAtHand held) never hand))
-  completes held arguments runs concluded (inr (inr (inr (inr (inr (inr (memory, none, nothing))))))) hand fine = inr memory
+  completes held arguments runs concluded (inr (inr (inr (inr (inr (inr (inl (memory, none, nothing)))))))) hand fine = inr memory
+  completes held arguments runs concluded (inr (inr (inr (inr (inr (inr (inr (layers, hands, asks_generate, ends, none)))))))) hand fine = generate_completes layers runs fine ends

@@ -239,7 +239,7 @@ module _ (arguments : List (List ℕ)) (status : Status) where
   call_of_a_check concluded asks ends = inr (inr (inr (inl (g, asks, ends, refl))))
 
   call_without_memory : CallEnds held arguments NoMemory [] None
-  call_without_memory = inr (inr (inr (inr (inr (inr (refl, refl, refl))))))
+  call_without_memory = inr (inr (inr (inr (inr (inr (inl (refl, refl, refl)))))))
 
 -- ---- the journal in place of the report, where that is asked for
 

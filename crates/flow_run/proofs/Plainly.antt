@@ -9,7 +9,7 @@ use Rattle.call_status.specs.declared.status.Status.TheVariants.{Done, ReadFault
 use Rattle.call_status.specs.declared.stop.Stop.{Stop}
 use Rattle.call_status.specs.declared.stop.Stop.TheVariants as stop
 use Rattle.call_status.specs.Statuses.{status_of}
-use Rattle.command_line.specs.Requests.{Asked, AskedRounds, asked_by, run, profile, judge, check, upgrade}
+use Rattle.command_line.specs.Requests.{Asked, AskedRounds, asked_by, run, profile, judge, check, upgrade, generate}
 use Rattle.graph_file.proofs.PlanLemmas.{IsPlan-read}
 use Rattle.graph_plans.specs.PlanRows.{PlanRows}
 use Rattle.graph_file.specs.PlanText.{PlanText}
@@ -35,7 +35,7 @@ use Rattle.profile_table.specs.ProfileText.{profile_text}
 use Rattle.profile_table.specs.Profiles.{Profile as Counted, profile_rows}
 use Rattle.flow_run.specs.Requests.{SourceTexts, CanBeRun, IsHeld, IsRequestedJob, IsTextOf, TextsAre, file_limit, text_limit}
 use Rattle.nested_runs.specs.Rounds.{AreAllRounds, AreFirstRounds}
-use Rattle.flow_run.specs.Answers.{CallEnds, IsAfterRun, ProfileEnds, RunEnds, TextRun, conclusion_text, output_of, runs_text}
+use Rattle.flow_run.specs.Answers.{CallEnds, GenerateEnds, IsAfterRun, ProfileEnds, RunEnds, TextRun, conclusion_text, output_of, runs_text}
 use Rattle.flow_run.specs.RoundTexts.{last_reason, round_rule, rounds_text}
 use Rattle.flow_run.specs.Completion.{IsAtHand}
 use Rattle.flow_run.specs.Plainly.{AsksPlainly, AsksRounds, IsReportedPlainly, TookPlainly}
@@ -139,6 +139,7 @@ rounds_of (Some (profile file limit workers rounds)) = Some (file, limit, rounds
 rounds_of (Some (judge file name limit)) = None
 rounds_of (Some (check file)) = None
 rounds_of (Some (upgrade file)) = None
+rounds_of (Some (generate layers workers)) = None
 
 no_run_and_profile : (file other : List ℕ) (limit most workers hands : ℕ) (rounds often : AskedRounds) (journal : Bool) → Some (run file limit workers rounds journal) ≡ Some (profile other most hands often) → ⊥
 no_run_and_profile file other limit most workers hands rounds often journal same = cc
@@ -164,6 +165,13 @@ each_round Holds law held file limit rounds status runs (inr ran) =
     let all = rounds_planned ran.job runs ran.first.rounds (planned held file limit ran.job ran.is) in
     λ k d below. law (slice_index_or runs k d) (all k d below) (ran.first.rounds.kept k d below)
 
+-- that of a generated graph
+each_generated : (Holds : TextRun → Type 0) → EachKept Holds → (layers : ℕ) (status : Status) (runs : List TextRun) → GenerateEnds layers status runs → All Holds runs
+each_generated Holds law layers status runs (inl stopped) = subst (All Holds) (sym stopped.1) (All-nil _)
+each_generated Holds law layers status runs (inr ran) =
+    let all = rounds_planned ran.job runs ran.first.rounds ran.is.planned in
+    λ k d below. law (slice_index_or runs k d) (all k d below) (ran.first.rounds.kept k d below)
+
 -- and of each run that a call keeps
 each_kept : (Holds : TextRun → Type 0) → EachKept Holds
     → (held : SourceTexts) (arguments : List (List ℕ)) (status : Status) (runs : List TextRun) (concluded : Option Conclusion) → CallEnds held arguments status runs concluded → All Holds runs
@@ -174,7 +182,8 @@ each_kept Holds law held arguments status runs concluded (inr (inr (inl (file, n
 each_kept Holds law held arguments status runs concluded (inr (inr (inr (inl (file, asked, ends, none))))) = subst (All Holds) (sym none) (All-nil _)
 each_kept Holds law held arguments status runs concluded (inr (inr (inr (inr (inl (file, asked, ends, none)))))) = subst (All Holds) (sym none) (All-nil _)
 each_kept Holds law held arguments status runs concluded (inr (inr (inr (inr (inr (inl (same, none, nothing, never))))))) = subst (All Holds) (sym none) (All-nil _)
-each_kept Holds law held arguments status runs concluded (inr (inr (inr (inr (inr (inr (same, none, nothing))))))) = subst (All Holds) (sym none) (All-nil _)
+each_kept Holds law held arguments status runs concluded (inr (inr (inr (inr (inr (inr (inl (same, none, nothing)))))))) = subst (All Holds) (sym none) (All-nil _)
+each_kept Holds law held arguments status runs concluded (inr (inr (inr (inr (inr (inr (inr (layers, hands, asks_generate, ends, none)))))))) = each_generated Holds law layers status runs ends
 
 -- Each run that is kept reports what one thread does.
 pub kept_plainly : (held : SourceTexts) (arguments : List (List ℕ)) (status : Status) (runs : List TextRun) (concluded : Option Conclusion) → CallEnds held arguments status runs concluded → All IsReportedPlainly runs
@@ -217,7 +226,8 @@ module _ (held : SourceTexts) (arguments : List (List ℕ)) (status : Status) (r
   ends_as_asked runs concluded (inr (inr (inr (inl (file, asked, ends, none))))) = none_asked runs (ap rounds_of asked)
   ends_as_asked runs concluded (inr (inr (inr (inr (inl (file, asked, ends, none)))))) = none_asked runs (ap rounds_of asked)
   ends_as_asked runs concluded (inr (inr (inr (inr (inr (inl (same, none, nothing, never))))))) = none_asked runs (ap rounds_of never)
-  ends_as_asked runs concluded (inr (inr (inr (inr (inr (inr (memory, none, nothing))))))) = inr (memory, none)
+  ends_as_asked runs concluded (inr (inr (inr (inr (inr (inr (inl (memory, none, nothing)))))))) = inr (memory, none)
+  ends_as_asked runs concluded (inr (inr (inr (inr (inr (inr (inr (layers, hands, asks_generate, ends, none)))))))) = none_asked runs (ap rounds_of asks_generate)
 
   -- Where the values of each round by one thread run through, each run that is kept is fine.
   all_fine : (runs : List TextRun) → EndsAsAsked runs → RoundsRunWell rounds job → All (λ r. run_reason text_job r ≡ Fine) runs
@@ -255,7 +265,8 @@ module _ (held : SourceTexts) (arguments : List (List ℕ)) (status : Status) (r
   no_conclusion file limit workers reports runs concluded (inr (inr (inr (inl (other, asked, ends, none))))) = absurd (no_run_and_check file other limit workers rounds false (sym reports ∙ asked))
   no_conclusion file limit workers reports runs concluded (inr (inr (inr (inr (inl (other, asked, ends, none)))))) = absurd (no_run_and_upgrade file other limit workers rounds false (sym reports ∙ asked))
   no_conclusion file limit workers reports runs concluded (inr (inr (inr (inr (inr (inl (same, none, nothing, never))))))) = nothing
-  no_conclusion file limit workers reports runs concluded (inr (inr (inr (inr (inr (inr (memory, none, nothing))))))) = nothing
+  no_conclusion file limit workers reports runs concluded (inr (inr (inr (inr (inr (inr (inl (memory, none, nothing)))))))) = nothing
+  no_conclusion file limit workers reports runs concluded (inr (inr (inr (inr (inr (inr (inr (layers, hands, asks_generate, ends, none)))))))) = none
 
   -- the profile of rounds that are asked for is concluded, where the call is done
   abbrev IsProfiled : List TextRun → Option Conclusion → Type 0
@@ -281,7 +292,8 @@ module _ (held : SourceTexts) (arguments : List (List ℕ)) (status : Status) (r
   profiled file limit workers profiles runs concluded (inr (inr (inr (inl (other, asked, ends, none))))) done = absurd (none-some (file, limit, rounds) (ap rounds_of (sym asked ∙ profiles)))
   profiled file limit workers profiles runs concluded (inr (inr (inr (inr (inl (other, asked, ends, none)))))) done = absurd (none-some (file, limit, rounds) (ap rounds_of (sym asked ∙ profiles)))
   profiled file limit workers profiles runs concluded (inr (inr (inr (inr (inr (inl (same, none, nothing, never))))))) done = absurd (none-some (file, limit, rounds) (ap rounds_of (sym never ∙ profiles)))
-  profiled file limit workers profiles runs concluded (inr (inr (inr (inr (inr (inr (memory, none, nothing))))))) done = absurd (let never : NoMemory ≡ Done = sym memory ∙ done in cc)
+  profiled file limit workers profiles runs concluded (inr (inr (inr (inr (inr (inr (inl (memory, none, nothing)))))))) done = absurd (let never : NoMemory ≡ Done = sym memory ∙ done in cc)
+  profiled file limit workers profiles runs concluded (inr (inr (inr (inr (inr (inr (inr (layers, hands, asks_generate, ends, none)))))))) done = absurd (none-some (file, limit, rounds) (ap rounds_of (sym asks_generate ∙ profiles)))
 
   -- the text of a profile of fine rounds
   profile_same : (runs : List TextRun) (counts : GraphProfile) → IsProfileOf (names_of job) runs counts → AreAllRounds text_job job (round_rule rounds) runs × (last_reason runs ≡ Fine)

@@ -18,7 +18,7 @@ use Rattle.call_status.specs.declared.status.Status.TheVariants.{Done, NoText, N
 use Rattle.call_status.specs.declared.stop.Stop.{Stop}
 use Rattle.call_status.specs.declared.stop.Stop.TheVariants as stop
 use Rattle.call_status.specs.Statuses.{status_of}
-use Rattle.command_line.specs.Requests.{AskedRounds, asked_by, once, times, run as run_asked, profile as profile_asked, judge as judge_asked, check as check_asked, upgrade as upgrade_asked}
+use Rattle.command_line.specs.Requests.{AskedRounds, asked_by, once, times, run as run_asked, profile as profile_asked, judge as judge_asked, check as check_asked, upgrade as upgrade_asked, generate as generate_asked}
 use Rattle.graph_plans.specs.PlanRows.{PlanRows}
 use Rattle.profile_table.specs.Profiles.{Profile, profile_of}
 use Rattle.profile_table.specs.ProfileText.{profile_text}
@@ -295,7 +295,8 @@ module _ (arguments : List (List ℕ)) (asks : asked_by arguments ≡ Some (prof
   verdict_on_a_profile runs (inr (inr (inr (inl (file, asks_check, ends, none))))) = let never : Some (profile_asked g 77 4 once) ≡ Some (check_asked file) = sym asks ∙ asks_check in absurd (cc)
   verdict_on_a_profile runs (inr (inr (inr (inr (inl (file, asks_upgrade, ends, none)))))) = let never : Some (profile_asked g 77 4 once) ≡ Some (upgrade_asked file) = sym asks ∙ asks_upgrade in absurd (cc)
   verdict_on_a_profile runs (inr (inr (inr (inr (inr (inl (same, none, nothing, refused))))))) = absurd (cc)
-  verdict_on_a_profile runs (inr (inr (inr (inr (inr (inr (same, none, nothing))))))) = absurd (cc)
+  verdict_on_a_profile runs (inr (inr (inr (inr (inr (inr (inl (same, none, nothing)))))))) = absurd (cc)
+  verdict_on_a_profile runs (inr (inr (inr (inr (inr (inr (inr (layers, hands, asks_generate, ends, none)))))))) = let never : Some (profile_asked g 77 4 once) ≡ Some (generate_asked layers hands) = sym asks ∙ asks_generate in absurd (cc)
 
   runs_without_a_table : (runs : List TextRun) → ¬ CallEnds held arguments Done runs None
   runs_without_a_table runs (inl (file, limit, workers, rounds, journal, asks_file, ends, none)) = let never : Some (profile_asked g 77 4 once) ≡ Some (run_asked file limit workers rounds journal) = sym asks ∙ asks_file in absurd (cc)
@@ -305,4 +306,5 @@ module _ (arguments : List (List ℕ)) (asks : asked_by arguments ≡ Some (prof
   runs_without_a_table runs (inr (inr (inr (inl (file, asks_check, ends, none))))) = let never : Some (profile_asked g 77 4 once) ≡ Some (check_asked file) = sym asks ∙ asks_check in absurd (cc)
   runs_without_a_table runs (inr (inr (inr (inr (inl (file, asks_upgrade, ends, none)))))) = let never : Some (profile_asked g 77 4 once) ≡ Some (upgrade_asked file) = sym asks ∙ asks_upgrade in absurd (cc)
   runs_without_a_table runs (inr (inr (inr (inr (inr (inl (same, none, nothing, refused))))))) = absurd (cc)
-  runs_without_a_table runs (inr (inr (inr (inr (inr (inr (same, none, nothing))))))) = absurd (cc)
+  runs_without_a_table runs (inr (inr (inr (inr (inr (inr (inl (same, none, nothing)))))))) = absurd (cc)
+  runs_without_a_table runs (inr (inr (inr (inr (inr (inr (inr (layers, hands, asks_generate, ends, none)))))))) = let never : Some (profile_asked g 77 4 once) ≡ Some (generate_asked layers hands) = sym asks ∙ asks_generate in absurd (cc)

@@ -7,7 +7,7 @@ use Rattle.call_status.specs.declared.status.Status.TheVariants.{Done, NoMemory}
 use Rattle.call_status.specs.declared.stop.Stop.{Stop}
 use Rattle.call_status.specs.declared.stop.Stop.TheVariants as stop
 use Rattle.call_status.specs.Statuses.{status_of}
-use Rattle.command_line.specs.Requests.{AskedRounds, asked_by, run, profile, judge, check, upgrade}
+use Rattle.command_line.specs.Requests.{AskedRounds, asked_by, run, profile, judge, check, upgrade, generate}
 use Rattle.flow_run.specs.declared.conclusion.Conclusion.{Conclusion}
 use Rattle.flow_run.specs.Requests.{SourceTexts}
 use Rattle.flow_run.specs.Answers.{TextRun, CallEnds, conclusion_text, output_of, runs_text}
@@ -32,6 +32,9 @@ no_profile file other limit workers rounds same = cc
 no_judgement : (file other name : List ℕ) (limit : ℕ) → Some (upgrade file) ≡ Some (judge other name limit) → ⊥
 no_judgement file other name limit same = cc
 
+no_generated : (file : List ℕ) (layers workers : ℕ) → Some (upgrade file) ≡ Some (generate layers workers) → ⊥
+no_generated file layers workers same = cc
+
 no_check : (file other : List ℕ) → Some (upgrade file) ≡ Some (check other) → ⊥
 no_check file other same = cc
 
@@ -54,4 +57,5 @@ module _ (held : SourceTexts) (file : List ℕ) (before after : Option (List ℕ
       let written : output_of arguments runs concluded ≡ ended.text = ap (λ ask. runs_text ask runs ++ conclusion_text concluded) asks ∙ ap conclusion_text ended.only in
       takes_plan ended.text (subst (λ name. IsUpgraded held name ended.text) (one_file file other (sym asks ∙ asked)) ended.upgraded) (subst (Took before after) written took)
   upgrade_done arguments status runs concluded (inr (inr (inr (inr (inr (inl (same, none, nothing, never))))))) asks done took = absurd (none-some (upgrade file) (sym never ∙ asks))
-  upgrade_done arguments status runs concluded (inr (inr (inr (inr (inr (inr (same, none, nothing))))))) asks done took = absurd (let never : NoMemory ≡ Done = sym same ∙ done in cc)
+  upgrade_done arguments status runs concluded (inr (inr (inr (inr (inr (inr (inl (same, none, nothing)))))))) asks done took = absurd (let never : NoMemory ≡ Done = sym same ∙ done in cc)
+  upgrade_done arguments status runs concluded (inr (inr (inr (inr (inr (inr (inr (layers, hands, asks_generate, ends, none)))))))) asks done took = absurd (no_generated file layers hands (sym asks ∙ asks_generate))
