@@ -135,6 +135,12 @@ refused 2 'flow: bad words' check "$count" --limit 3
 refused 2 'flow: bad words' upgrade
 refused 2 'flow: bad words' upgrade "$count" "$count"
 refused 2 'flow: bad words' upgrade "$count" --workers 4
+refused 2 'flow: bad words' generate
+refused 2 'flow: bad words' generate 0
+refused 2 'flow: bad words' generate 901
+refused 2 'flow: bad words' generate 1 2
+refused 2 'flow: bad words' generate 1 --workers 17
+refused 2 'flow: bad words' generate 1 --limit 5
 refused 5 'flow: no text nowhere.json' run nowhere.json
 refused 5 'flow: no text t.txt' run "$count"
 refused 5 'flow: no text t.txt' profile "$count"
@@ -331,6 +337,24 @@ code=0
 echo "$code" >"$seen/code"
 echo 'flow: write fault' >"$seen/wanted_notes"
 compare 'an upgrade on a full device' 7 /dev/null "$seen/wanted_notes"
+# Generated graphs by 1, 4 and 16 workers: what the smallest and the greatest one print, and an output that fails.
+for workers in 1 4 16; do
+    printf 'tasks 17\nstarts 395\ninner starts 601\nsum lines 200\ndone lines 10\npipe lines 200\n' >"$seen/wanted_out"
+    call generate 1 --workers "$workers"
+    compare "a generated graph of one layer by $workers" 0 "$seen/wanted_out" /dev/null
+    call generate 900 --workers "$workers"
+    if ((workers == 1)); then
+        cp "$seen/out" "$seen/generated"
+        [[ $(head -n 2 "$seen/out" | paste -sd ' ') == 'tasks 9007 starts 9385' ]] || fault 'a generated graph of 900 layers has other tasks or starts'
+    fi
+    compare "a generated graph of 900 layers by $workers" 0 "$seen/generated" /dev/null
+done
+code=0
+"$program" generate 2 >/dev/full 2>"$seen/notes" || code=$?
+: >"$seen/out"
+echo "$code" >"$seen/code"
+echo 'flow: write fault' >"$seen/wanted_notes"
+compare 'a generated graph on a full device' 7 /dev/null "$seen/wanted_notes"
 # As many semaphores as there may be, and one more.
 semaphores() {
     seq "$1" | sed 's/.*/{"name":"s&","max":1}/' | paste -sd ,
