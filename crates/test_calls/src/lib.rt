@@ -24,6 +24,8 @@ mod faults;
 #[cfg(test)]
 mod gates;
 #[cfg(test)]
+mod generate_calls;
+#[cfg(test)]
 mod inputs;
 #[cfg(test)]
 mod judge_calls;
