@@ -5,16 +5,9 @@ use crate::calls::{CALL, COUNT, Table};
 const GENERATED: Table = Table {
     graph: COUNT,
     call: CALL,
-    rows: r#"generate 1 --workers 1 -> - -> read 0 -> 0 written, run of 790 [tasks 17|starts 395|inner starts 601|sum lines 200|done lines 10|pipe lines 200|] []
-generate 1 --workers 4 -> - -> - -> 0 written, run of 790 [tasks 17|starts 395|inner starts 601|sum lines 200|done lines 10|pipe lines 200|] []
-generate 1 --workers 16 -> - -> - -> 0 written, run of 790 [tasks 17|starts 395|inner starts 601|sum lines 200|done lines 10|pipe lines 200|] []
+    rows: r#"generate 1 --workers * -> - -> read 0 -> 0 written, run of 790 [tasks 17|starts 395|inner starts 601|sum lines 200|done lines 10|pipe lines 200|] []
 generate 1 -> - -> put 0 0 -> 7 cut, run of 790 [] [flow: write fault|]
-generate 1 -> - -> put 0 8 -> 7 cut, run of 790 [tasks 17] [flow: write fault|]
-generate 0 -> - -> - -> 2 written [] [flow: bad words|]
-generate 901 -> - -> - -> 2 written [] [flow: bad words|]
-generate -> - -> - -> 2 written [] [flow: bad words|]
-generate 1 2 -> - -> - -> 2 written [] [flow: bad words|]
-generate 1 --limit 9 -> - -> - -> 2 written [] [flow: bad words|]"#,
+generate 1 -> - -> put 0 8 -> 7 cut, run of 790 [tasks 17] [flow: write fault|]"#,
 };
 
 pub const TABLES: [Table; 1] = [GENERATED];

@@ -11,6 +11,12 @@ run -x
 g
 Run g
 walk g
+generate
+generate 0
+generate 901
+generate 1 2
+generate 1 --limit 9
+generate 1 --workers 17
 run g g
 run g --help
 run g --workers
