@@ -11,9 +11,9 @@ from spec_files import CRATES, TOP, definitions_in, imported, name_of, words
 
 PAGE = TOP / "docs/THEOREM.md"
 ROW = re.compile(r"^(\| .* \| `([a-z_]+/specs/[A-Za-z/]+\.antt)` \| )[0-9]+ \|$")
-HEADING = re.compile(r"^\*\*(All commands|`(?:run|profile|judge|check|upgrade)`.*?)[:*]")
+HEADING = re.compile(r"^\*\*(All commands|`(?:run|profile|judge|check|upgrade|generate)`.*?)[:*]")
 SUMS = re.compile(r"In all they have [0-9,]+ lines; [^.]*\.")
-COMMANDS = ("run", "profile", "judge", "check", "upgrade")
+COMMANDS = ("run", "profile", "judge", "check", "upgrade", "generate")
 
 
 def cited_files():
