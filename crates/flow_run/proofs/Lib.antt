@@ -25,3 +25,4 @@ pub mod WatchExamples
 pub mod ReadExamples
 pub mod PlainExamples
 pub mod RoundPlainExamples
+mod GeneratedLemmas

@@ -23,7 +23,8 @@ use Rattle.flow_run.specs.declared.conclusion.Conclusion.{Conclusion}
 use Rattle.flow_run.specs.declared.conclusion.Conclusion.TheVariants.{Profile}
 use Rattle.flow_run.specs.declared.conclusion.GraphProfile.{GraphProfile}
 use Rattle.flow_run.specs.Profiles.{IsProfileOf}
-use Rattle.flow_run.specs.Answers.{IsAfterRun, JobEnds, ProfileEnds, RanProfile, RunEnds, runs_text}
+use Rattle.flow_run.specs.Answers.{GenerateEnds, IsAfterRun, JobEnds, ProfileEnds, RanProfile, RunEnds, runs_text}
+use Rattle.flow_run.specs.Generated.{IsGeneratedJob}
 use Rattle.flow_run.specs.RoundTexts.{TextRun, last_reason, round_rule}
 
 -- what follows a run of a plan's top graph is of that graph
@@ -82,6 +83,11 @@ pub requested_rounds : (held : SourceTexts) (file : List ℕ) (limit : ℕ) (job
     → JobEnds job rounds status runs → RunEnds held file limit rounds status runs
 requested_rounds held file limit job rounds status runs requested ends =
     inr (record { job = ends.job; is = subst (IsRequestedJob held file limit) (sym ends.is) requested; first = ends.first; all = ends.all; after = ends.after })
+
+-- and that of a generated graph
+pub generated_rounds : (layers : ℕ) (job : TextJob) (status : Status) (runs : List TextRun) → IsGeneratedJob layers job → JobEnds job once status runs → GenerateEnds layers status runs
+generated_rounds layers job status runs generated ends =
+    inr (record { job = ends.job; is = subst (IsGeneratedJob layers) (sym ends.is) generated; first = ends.first; all = ends.all; after = ends.after })
 
 -- ---- profiles
 

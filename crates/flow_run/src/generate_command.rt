@@ -12,7 +12,7 @@ ghost use Rattle.text_ops.specs.Lines.{lines_of};
 ghost use Rattle.text_tasks.specs.declared.item.Item.{Item};
 ghost use Rattle.text_tasks.specs.Items.{item_text};
 ghost use Rattle.text_tasks.specs.JobMeaning.{IsGraphJob, net_of, text_job};
-ghost use Rattle.flow_run.specs.Answers.{GenerateEnds, HasWritten};
+ghost use Rattle.flow_run.specs.Answers.{GenerateEnds, HasWritten, JobEnds};
 ghost use Rattle.flow_run.specs.Generated.{IsGeneratedJob, number_line, summaries_text, summary_text};
 ghost use Rattle.flow_run.specs.Watched.{HaveSeen};
 ghost use Rattle.flow_run.specs.inside.RisingValues.{AreRising};
@@ -57,11 +57,39 @@ pub(crate) fn run_generated<S: Sink, R: Threads + Wait + Sync>(
     ensures watchers { HaveSeen told asked.workers (result.status ≢ Status.NoMemory)
         result.runs watchers.old.items watchers.new.items }
 {
-    let Ok(job) = generated_job(rt, alloc, asked.layers) else {
-        return stopped(alloc, Status::NoMemory);
-    };
-    let ran = run_rounds(rt, alloc, asked.workers, Rounds::Once, job, watchers);
-    let RoundsRun { runs, whole } = ran;
+    match generated_job(rt, alloc, asked.layers) {
+        Ok(job) => run_and_summarize(rt, alloc, asked, job, out, watchers),
+        Err(NoMemory) => stopped(alloc, Status::NoMemory),
+    }
+}
+
+// Runs the job once, and writes its summary.
+fn run_and_summarize<S: Sink, R: Threads + Wait + Sync>(
+    rt: &R,
+    alloc: Global,
+    asked: Generate,
+    job: TextJob,
+    out: &mut S,
+    watchers: &mut Vec<Box<dyn Watch + Send>>,
+) -> Ended
+    requires job { IsGeneratedJob asked.layers job }
+    requires graph { IsGraphJob job }
+    requires nothing_held { (S.state out.old).held_back ≡ [] }
+    ensures ends { JobEnds job once result.status result.runs }
+    ensures written { HasWritten S.state out.old out.new result.status (result.runs ≡ [])
+        (summaries_text asked.layers result.runs) result.written }
+    ensures no_conclusion { result.conclusion ≡ None }
+    ensures watchers { HaveSeen told asked.workers (result.status ≢ Status.NoMemory)
+        result.runs watchers.old.items watchers.new.items }
+{
+    let RoundsRun { runs, whole } = run_rounds(
+        rt,
+        alloc,
+        asked.workers,
+        Rounds::Once,
+        job,
+        watchers,
+    );
     let Ok(reason) = last_reason(alloc, runs.as_slice()) else {
         let written = runs.is_empty();
         return after_runs(runs, Status::NoMemory, written);

@@ -16,7 +16,7 @@ returns-in_default-clause-reported g c =
     let text = rounds_text (asked_rounds c.args.asked.options.rounds) c.args.asked.journal in
     let none = c.is_empty-written.ensures in
     subst (λ (end : Ended). HasWritten state c.args.out.now c.args.out.now end.status (end.runs ≡ []) (text end.runs) end.written) (sym c.after_runs.ensures)
-    (none_reported state c.args.out.now (asked_rounds c.args.asked.options.rounds) c.args.asked.journal c.run_rounds-runs.result.runs c.is_empty-written.result none.0 none.1 c.requires.nothing_held)
+    (none_reported state c.args.out.now text refl c.run_rounds-runs.result.runs c.is_empty-written.result none.0 none.1 c.requires.nothing_held)
 
 pub returns-clause-ends : goal.returns-clause-ends
 returns-clause-ends g c =
