@@ -16,19 +16,21 @@ use Rattle.graph_plans.specs.Operations.{shape_of}
 use Rattle.graph_plans.specs.PlanRows.{GraphRows, PlanRows}
 use Rattle.graph_generator.specs.Draws.{draw}
 
+-- how many layers a plan may have
+abbrev pub max_layers : ℕ
+max_layers = 900
+
 -- ---- the layers: task t is number t % 10 of layer t / 10
 
--- how many tasks a layer has
-abbrev pub layer_width : ℕ
-layer_width = 10
-
--- how many draws the text takes and, for each task behind the first layer, its operation and its second predecessor
+-- The first 200 draws are the text's. Then each task behind the first layer takes two: one for its operation,
 abbrev pub op_draw : ℕ → ℕ → ℕ
-op_draw seed t = draw seed (180 + 2 * t)
+op_draw layers t = draw layers (180 + 2 * t)
 
+-- and one for its second predecessor.
 abbrev pub edge_draw : ℕ → ℕ → ℕ
-edge_draw seed t = draw seed (181 + 2 * t)
+edge_draw layers t = draw layers (181 + 2 * t)
 
+-- `g`, the layer, `_` and the number in it
 abbrev pub layer_name : ℕ → List ℕ
 layer_name t = codes "g" ++ decimal (t / 10) ++ codes "_" ++ decimal (t % 10)
 
@@ -52,10 +54,17 @@ other_before t d = 10 * (t / 10 - 1) + (t % 10 + (d % 9 + 1)) % 10
 abbrev pub leads_to : ℕ → ℕ → ℕ → Bool
 leads_to t next d = (next == t + 10) || (other_before next d == t)
 
--- the tasks to which one of a layer hands something: some of the next layer, or, in the last one, the tally
-abbrev pub next_tasks : ℕ → ℕ → List ℕ
-next_tasks layers t =
-    if t / 10 + 1 == layers then (10 * layers) ∷ [] else filter (λ next. leads_to t next (edge_draw layers next)) (range_with_len (10 * (t / 10 + 1)) 10)
+-- the tasks of the layer behind that of a task
+unfoldable pub next_layer : ℕ → List ℕ
+next_layer t = range_with_len (10 * (t / 10 + 1)) 10
+
+-- of these, those to which it hands something
+abbrev pub tasks_behind : ℕ → ℕ → List ℕ
+tasks_behind layers t = filter (λ next. leads_to t next (edge_draw layers next)) (next_layer t)
+
+-- the successors of a task: some of the next layer, or, in the last one, the tally
+abbrev pub successors : ℕ → ℕ → List ℕ
+successors layers t = if t / 10 + 1 == layers then 10 * layers ∷ [] else tasks_behind layers t
 
 -- ---- behind them
 
@@ -68,6 +77,7 @@ generated_pipeline = record {
   defers = record { token = 1; to = 3 ∷ [] } ∷ record { token = 2; to = 1 ∷ [] } ∷ [];
 }
 
+-- the names of the seven tasks
 abbrev pub last_names : List (List ℕ)
 last_names = codes "sum" ∷ codes "init" ∷ codes "body" ∷ codes "more" ∷ codes "done" ∷ codes "pr" ∷ codes "pp" ∷ []
 
@@ -75,6 +85,7 @@ last_names = codes "sum" ∷ codes "init" ∷ codes "body" ∷ codes "more" ∷ 
 abbrev pub last_ops : List Op
 last_ops = Text Tally ∷ Read 0 ∷ Text (Skip 1) ∷ IfMore 10 ∷ Text Pass ∷ Read 0 ∷ Pipe generated_pipeline ∷ []
 
+-- an edge between tasks of these numbers
 abbrev pub edge : ℕ → ℕ → EdgeRow
 edge from to = record { from = from; to = to; start = false }
 
@@ -84,31 +95,36 @@ last_edges sum = edge (sum + 1) (sum + 2) ∷ edge (sum + 2) (sum + 3) ∷ edge 
 
 -- ---- all together
 
+-- the names of the tasks
 abbrev pub generated_names : ℕ → List (List ℕ)
 generated_names layers = map layer_name (range_with_len 0 (10 * layers)) ++ last_names
 
+-- what they do
 abbrev pub generated_ops : ℕ → List Op
 generated_ops layers = map (λ t. layer_op t (op_draw layers t)) (range_with_len 0 (10 * layers)) ++ last_ops
 
+-- the edges out of a task of a layer
 abbrev pub layer_edges : ℕ → ℕ → List EdgeRow
-layer_edges layers t = map (edge t) (next_tasks layers t)
+layer_edges layers t = map (edge t) (successors layers t)
 
+-- all edges, in the order of the tasks that they leave
 abbrev pub generated_edges : ℕ → List EdgeRow
 generated_edges layers = flat_map (layer_edges layers) (range_with_len 0 (10 * layers)) ++ last_edges (10 * layers)
 
+-- the row of a task in the net; none takes or puts a semaphore
 abbrev pub generated_row : Op → TaskRow
 generated_row op = record { shape = shape_of op; takes = []; puts = [] }
 
+-- the graph of so many layers
+abbrev pub generated_graph : ℕ → GraphRows
+generated_graph layers = record {
+  name = [];
+  names = generated_names layers;
+  ops = generated_ops layers;
+  sem_names = [];
+  net = record { tasks = map generated_row (generated_ops layers); edges = generated_edges layers; sems = [] };
+}
+
 -- the plan of so many layers
 abbrev pub generated_plan : ℕ → PlanRows
-generated_plan layers = record {
-  top = record {
-    name = [];
-    names = generated_names layers;
-    ops = generated_ops layers;
-    sem_names = [];
-    net = record { tasks = map generated_row (generated_ops layers); edges = generated_edges layers; sems = [] };
-  };
-  modules = [];
-  texts = codes "gen.txt" ∷ [];
-}
+generated_plan layers = record { top = generated_graph layers; modules = []; texts = codes "gen.txt" ∷ [] }

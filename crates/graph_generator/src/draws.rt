@@ -1,7 +1,7 @@
 // Numbers drawn one after another.
-ghost use Rattle.std.specs.Prelude.{◌≡◌, IfOk, map};
-ghost use Rattle.std.specs.List.{range_with_len};
-ghost use Rattle.graph_generator.specs.Draws.{draw, next_state};
+ghost use Rattle.std.specs.Prelude.{◌≡◌, IfOk};
+ghost use Rattle.graph_generator.specs.Draws.{next_state};
+ghost use Rattle.graph_generator.specs.inside.Drawn.{draws};
 
 use outside_io::{List, NoMemory};
 use std::alloc::Global;
@@ -11,7 +11,7 @@ const LOWER_BITS: u64 = 8_589_934_592;
 
 /// So many draws from this seed.
 pub(crate) fn draws_from(alloc: Global, seed: u64, count: usize) -> Result<List<u64>, NoMemory>
-    ensures { IfOk result (λ draws. draws ≡ map (draw seed) (range_with_len 0 count)) }
+    ensures { IfOk result (λ list. list ≡ draws seed count) }
 {
     let mut draws = List::with_room(alloc, count)?;
     let mut state = seed;

@@ -1,6 +1,6 @@
 // The edges of generated graphs.
-ghost use Rattle.std.specs.Prelude.{◌≡◌, ◌≤◌, ◌<◌, ◌*◌, ◌++◌, IfOk, OnOk, map};
-ghost use Rattle.graph_generator.specs.GeneratedPlan.{generated_edges, last_edges, layer_edges, leads_to, other_before};
+ghost use Rattle.std.specs.Prelude.{◌≡◌, ◌≤◌, ◌<◌, ◌+◌, ◌*◌, ◌/◌, ◌++◌, [], ◌∷◌, IfOk, OnOk, map};
+ghost use Rattle.graph_generator.specs.GeneratedPlan.{edge, generated_edges, last_edges, layer_edges, leads_to, max_layers, other_before, tasks_behind};
 ghost use Rattle.graph_generator.specs.inside.Drawn.{drawn};
 ghost use Rattle.graph_generator.specs.inside.Edges.{edge_row};
 
@@ -17,8 +17,7 @@ pub(crate) struct Edge {
 
 /// The edges of so many layers, by their draws.
 pub(crate) fn edges_of(alloc: Global, layers: usize, draws: &[u64]) -> Result<List<Edge>, NoMemory>
-    requires some { 1 ≤ layers }
-    requires few { layers ≤ 900 }
+    requires few { layers ≤ max_layers }
     requires draws { draws.now ≡ drawn layers }
     ensures { IfOk result (λ edges. map edge_row edges ≡ generated_edges layers) }
 {
@@ -37,32 +36,51 @@ fn add_layer_edges(
     layers: usize,
     draws: &[u64],
 ) -> Result<(), NoMemory>
-    requires few { layers ≤ 900 }
+    requires few { layers ≤ max_layers }
     requires task { task < 10 * layers }
     requires draws { draws.now ≡ drawn layers }
     ensures { OnOk result (map edge_row edges.new ≡ map edge_row edges.old ++ layer_edges layers task) }
 {
-    let next = task / LAYER_WIDTH + 1;
-    if next == layers {
-        edges.push(Edge {
-            from: task,
-            to: LAYER_WIDTH * layers,
-        })?;
-        return Ok(());
+    if task / LAYER_WIDTH + 1 == layers {
+        add_edge(edges, task, LAYER_WIDTH * layers)
+    } else {
+        add_edges_behind(edges, task, layers, draws)
     }
-    for to in LAYER_WIDTH * next..LAYER_WIDTH * next + LAYER_WIDTH {
+}
+
+// The edges out of a task into the next layer.
+fn add_edges_behind(
+    edges: &mut List<Edge>,
+    task: usize,
+    layers: usize,
+    draws: &[u64],
+) -> Result<(), NoMemory>
+    requires few { layers ≤ max_layers }
+    requires behind { task / 10 + 1 < layers }
+    requires draws { draws.now ≡ drawn layers }
+    ensures { OnOk result (map edge_row edges.new
+        ≡ map edge_row edges.old ++ map (edge task) (tasks_behind layers task)) }
+{
+    let next = LAYER_WIDTH * (task / LAYER_WIDTH + 1);
+    for to in next..next + LAYER_WIDTH {
         if leads_to(task, to, draws[181 + 2 * to]) {
-            edges.push(Edge { from: task, to })?;
+            add_edge(edges, task, to)?;
         }
     }
     Ok(())
 }
 
+fn add_edge(edges: &mut List<Edge>, from: usize, to: usize) -> Result<(), NoMemory>
+    ensures { OnOk result (map edge_row edges.new ≡ map edge_row edges.old ++ edge from to ∷ []) }
+{
+    edges.push(Edge { from, to })?;
+    Ok(())
+}
+
 // Whether a task hands something to this one of the next layer.
 fn leads_to(task: usize, next: usize, drawn: u64) -> bool
-    requires few { task ≤ 9000 }
+    requires few { task < 10 * max_layers }
     requires later { 10 ≤ next }
-    requires next { next ≤ 9000 }
     ensures { result ≡ leads_to task next drawn }
 {
     next == task + LAYER_WIDTH || other_before(next, drawn) == task
@@ -71,7 +89,6 @@ fn leads_to(task: usize, next: usize, drawn: u64) -> bool
 // Of the layer before a task, the other one that hands it something.
 fn other_before(task: usize, drawn: u64) -> usize
     requires later { 10 ≤ task }
-    requires few { task ≤ 9000 }
     ensures { result ≡ other_before task drawn }
 {
     let shift = (drawn % 9) as usize + 1;
@@ -80,14 +97,12 @@ fn other_before(task: usize, drawn: u64) -> usize
 
 // The edges of the loop and of the pipeline, where the tally has this number.
 fn add_last_edges(edges: &mut List<Edge>, sum: usize) -> Result<(), NoMemory>
-    requires { sum ≤ 9000 }
+    requires { sum ≤ 10 * max_layers }
     ensures { OnOk result (map edge_row edges.new ≡ map edge_row edges.old ++ last_edges sum) }
 {
-    for (from, to) in [(1, 2), (2, 3), (3, 2), (3, 4), (5, 6)] {
-        edges.push(Edge {
-            from: sum + from,
-            to: sum + to,
-        })?;
-    }
-    Ok(())
+    add_edge(edges, sum + 1, sum + 2)?;
+    add_edge(edges, sum + 2, sum + 3)?;
+    add_edge(edges, sum + 3, sum + 2)?;
+    add_edge(edges, sum + 3, sum + 4)?;
+    add_edge(edges, sum + 5, sum + 6)
 }

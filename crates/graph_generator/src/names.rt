@@ -1,17 +1,14 @@
 // The names of generated tasks.
-ghost use Rattle.std.specs.Prelude.{◌≡◌, ◌≤◌, ◌++◌, IfOk, OnOk};
-ghost use Rattle.graph_generator.specs.GeneratedPlan.{generated_names, last_names, layer_name};
+ghost use Rattle.std.specs.Prelude.{◌≡◌, ◌≤◌, ◌++◌, [], ◌∷◌, IfOk, OnOk};
+ghost use Rattle.graph_generator.specs.GeneratedPlan.{generated_names, last_names, layer_name, max_layers};
 
 use crate::sample::LAYER_WIDTH;
 use outside_io::{Bytes, List, NoMemory, add_numbered};
 use std::alloc::Global;
 
-// The names of the tasks behind the layers.
-const LAST_NAMES: [&[u8]; 7] = [b"sum", b"init", b"body", b"more", b"done", b"pr", b"pp"];
-
 /// The names of the tasks of so many layers.
 pub(crate) fn names_of(alloc: Global, layers: usize) -> Result<List<Bytes>, NoMemory>
-    requires { layers ≤ 900 }
+    requires { layers ≤ max_layers }
     ensures { IfOk result (λ names. names ≡ generated_names layers) }
 {
     let mut names = List::new(alloc);
@@ -34,8 +31,18 @@ fn layer_name(alloc: Global, task: usize) -> Result<Bytes, NoMemory>
 fn add_last_names(alloc: Global, names: &mut List<Bytes>) -> Result<(), NoMemory>
     ensures { OnOk result (names.new ≡ names.old ++ last_names) }
 {
-    for name in LAST_NAMES {
-        names.push(List::from_slice(alloc, name)?)?;
-    }
+    add_name(alloc, names, b"sum")?;
+    add_name(alloc, names, b"init")?;
+    add_name(alloc, names, b"body")?;
+    add_name(alloc, names, b"more")?;
+    add_name(alloc, names, b"done")?;
+    add_name(alloc, names, b"pr")?;
+    add_name(alloc, names, b"pp")
+}
+
+fn add_name(alloc: Global, names: &mut List<Bytes>, name: &[u8]) -> Result<(), NoMemory>
+    ensures { OnOk result (names.new ≡ names.old ++ name.now ∷ []) }
+{
+    names.push(List::from_slice(alloc, name)?)?;
     Ok(())
 }

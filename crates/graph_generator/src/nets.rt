@@ -2,6 +2,7 @@
 ghost use Rattle.std.specs.Prelude.{◌≡◌, ◌≤◌, ◌<◌, ◌++◌, [], All, IfOk, OnOk, length, map};
 ghost use Rattle.task_graph.specs.NetBuilder.{empty_net, with_edge, with_task};
 ghost use Rattle.graph_plans.specs.Operations.{shape_of};
+ghost use Rattle.graph_plans.specs.PlanRows.{file_edge_limit, file_task_limit};
 ghost use Rattle.graph_generator.specs.GeneratedPlan.{generated_row};
 ghost use Rattle.graph_generator.specs.inside.Edges.{IsAmong, edge_row};
 
@@ -13,8 +14,8 @@ use task_graph::{BuildError, Net, NetBuilder, Shape};
 
 /// The net of tasks with these operations and of these edges.
 pub(crate) fn net_of(alloc: Global, ops: &[Op], edges: &[Edge]) -> Result<Net, NoMemory>
-    requires tasks { length ops.now ≤ 10000 }
-    requires edges { length edges.now ≤ 100000 }
+    requires tasks { length ops.now ≤ file_task_limit }
+    requires edges { length edges.now ≤ file_edge_limit }
     requires among { All (IsAmong (length ops.now)) (map edge_row edges.now) }
     ensures { IfOk result (λ net. net
         ≡ record { tasks = map generated_row ops.now; edges = map edge_row edges.now; sems = [] }) }
@@ -27,7 +28,7 @@ pub(crate) fn net_of(alloc: Global, ops: &[Op], edges: &[Edge]) -> Result<Net, N
 
 fn add_tasks(alloc: Global, builder: &mut NetBuilder, ops: &[Op]) -> Result<(), NoMemory>
     requires empty { builder.old ≡ empty_net }
-    requires room { length ops.now ≤ 10000 }
+    requires room { length ops.now ≤ file_task_limit }
     ensures { OnOk result (builder.new ≡ record empty_net { tasks = map generated_row ops.now }) }
 {
     for op in ops {
@@ -37,7 +38,7 @@ fn add_tasks(alloc: Global, builder: &mut NetBuilder, ops: &[Op]) -> Result<(), 
 }
 
 fn add_task(alloc: Global, builder: &mut NetBuilder, op: &Op) -> Result<(), NoMemory>
-    requires room { length builder.old.tasks < 10000 }
+    requires room { length builder.old.tasks < file_task_limit }
     requires none { builder.old.sems ≡ [] }
     ensures { OnOk result (builder.new ≡ with_task builder.old (generated_row op.now)) }
 {
@@ -61,9 +62,9 @@ fn shape_of(op: &Op) -> Shape
 
 fn add_edges(builder: &mut NetBuilder, tasks: usize, edges: &[Edge]) -> Result<(), NoMemory>
     requires tasks { length builder.old.tasks ≡ tasks }
-    requires few { tasks ≤ 10000 }
+    requires few { tasks ≤ file_task_limit }
     requires none { builder.old.edges ≡ [] }
-    requires room { length edges.now ≤ 100000 }
+    requires room { length edges.now ≤ file_edge_limit }
     requires among { All (IsAmong tasks) (map edge_row edges.now) }
     ensures { OnOk result (builder.new ≡ record builder.old { edges = map edge_row edges.now }) }
 {
@@ -74,8 +75,8 @@ fn add_edges(builder: &mut NetBuilder, tasks: usize, edges: &[Edge]) -> Result<(
 }
 
 fn add_edge(builder: &mut NetBuilder, edge: Edge) -> Result<(), NoMemory>
-    requires tasks { length builder.old.tasks ≤ 10000 }
-    requires room { length builder.old.edges < 100000 }
+    requires tasks { length builder.old.tasks ≤ file_task_limit }
+    requires room { length builder.old.edges < file_edge_limit }
     requires among { IsAmong (length builder.old.tasks) (edge_row edge) }
     ensures { OnOk result (builder.new ≡ with_edge builder.old (edge_row edge)) }
 {

@@ -1,6 +1,6 @@
 // The operations of generated tasks.
 ghost use Rattle.std.specs.Prelude.{◌≡◌, ◌≤◌, ◌++◌, [], ◌∷◌, IfOk, OnOk};
-ghost use Rattle.graph_generator.specs.GeneratedPlan.{even_op, generated_ops, generated_pipeline, last_ops, layer_op, odd_op};
+ghost use Rattle.graph_generator.specs.GeneratedPlan.{even_op, generated_ops, generated_pipeline, last_ops, layer_op, max_layers, odd_op};
 ghost use Rattle.graph_generator.specs.inside.Drawn.{drawn};
 
 use crate::sample::LAYER_WIDTH;
@@ -11,7 +11,7 @@ use std::alloc::Global;
 
 /// The operations of the tasks of so many layers, by their draws.
 pub(crate) fn ops_of(alloc: Global, layers: usize, draws: &[u64]) -> Result<List<Op>, NoMemory>
-    requires few { layers ≤ 900 }
+    requires few { layers ≤ max_layers }
     requires draws { draws.now ≡ drawn layers }
     ensures { IfOk result (λ ops. ops ≡ generated_ops layers) }
 {

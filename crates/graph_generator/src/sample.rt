@@ -1,10 +1,8 @@
 // Generated graphs.
 ghost use Rattle.std.specs.Prelude.{◌≡◌, ◌≤◌, IfOk};
-ghost use Rattle.std.specs.Arc.{arc_value};
-ghost use Rattle.task_graph.specs.Net.{IsNet};
 ghost use Rattle.graph_plans.specs.PlanRows.{IsPlan, graph_rows, plan_rows};
 ghost use Rattle.graph_generator.specs.inside.Drawn.{drawn};
-ghost use Rattle.graph_generator.specs.GeneratedPlan.{generated_plan};
+ghost use Rattle.graph_generator.specs.GeneratedPlan.{generated_graph, generated_plan, max_layers};
 ghost use Rattle.graph_generator.specs.GeneratedText.{generated_text};
 
 use crate::draws::draws_from;
@@ -21,6 +19,9 @@ use std::sync::Arc;
 /// How many layers a generated graph may have.
 pub const MAX_LAYERS: u64 = 900;
 
+// How many lines the text has.
+const LINES: usize = 200;
+
 // How many tasks a layer has.
 pub(crate) const LAYER_WIDTH: usize = 10;
 
@@ -34,7 +35,7 @@ pub struct Sample {
 /// The plan of so many layers, with its text. The same number gives the same plan and text.
 pub fn generate(alloc: Global, layers: u64) -> Result<Sample, NoMemory>
     requires some { 1 ≤ layers }
-    requires few { layers ≤ 900 }
+    requires few { layers ≤ max_layers }
     ensures plan { IfOk result (λ sample. plan_rows sample.plan ≡ generated_plan layers) }
     ensures rules { IfOk result (λ sample. IsPlan (plan_rows sample.plan)) }
     ensures text { IfOk result (λ sample. sample.text ≡ generated_text layers) }
@@ -49,17 +50,16 @@ pub fn generate(alloc: Global, layers: u64) -> Result<Sample, NoMemory>
             modules: List::new(alloc),
             texts,
         },
-        text: text_of(alloc, draws.as_slice())?,
+        text: text_of(alloc, layers, LINES)?,
     })
 }
 
 // The graph of so many layers, by their draws.
 fn top_graph(alloc: Global, layers: usize, draws: &[u64]) -> Result<Graph, NoMemory>
     requires some { 1 ≤ layers }
-    requires few { layers ≤ 900 }
+    requires few { layers ≤ max_layers }
     requires draws { draws.now ≡ drawn layers }
-    ensures rows { IfOk result (λ graph. graph_rows graph ≡ (generated_plan layers).top) }
-    ensures net { IfOk result (λ graph. IsNet (arc_value graph.net)) }
+    ensures { IfOk result (λ graph. graph_rows graph ≡ generated_graph layers) }
 {
     let ops = ops_of(alloc, layers, draws)?;
     let edges = edges_of(alloc, layers, draws)?;

@@ -1,23 +1,21 @@
 // The text that generated graphs read.
-ghost use Rattle.std.specs.Prelude.{◌≡◌, ◌≤◌, ◌++◌, IfOk, OnOk, length};
-ghost use Rattle.graph_generator.specs.GeneratedText.{line_count, text_line};
-ghost use Rattle.graph_generator.specs.inside.Drawn.{text_by};
+ghost use Rattle.std.specs.Prelude.{◌≡◌, ◌++◌, IfOk, OnOk};
+ghost use Rattle.graph_generator.specs.GeneratedText.{text_line, text_lines};
 
+use crate::draws::draws_from;
 use outside_io::{Bytes, List, NoMemory, add_numbered};
 use std::alloc::Global;
-
-const LINES: usize = 200;
 
 // How many different words there are.
 const WORDS: u64 = 50;
 
-/// The text, by its draws.
-pub(crate) fn text_of(alloc: Global, draws: &[u64]) -> Result<Bytes, NoMemory>
-    requires { line_count ≤ length draws.now }
-    ensures { IfOk result (λ text. text ≡ text_by draws.now) }
+/// So many lines, by draws from this seed.
+pub(crate) fn text_of(alloc: Global, seed: u64, lines: usize) -> Result<Bytes, NoMemory>
+    ensures { IfOk result (λ text. text ≡ text_lines seed lines) }
 {
+    let draws = draws_from(alloc, seed, lines)?;
     let mut text = List::new(alloc);
-    for number in 0..LINES {
+    for number in 0..lines {
         add_line(&mut text, number as u64, draws[number])?;
     }
     Ok(text)
