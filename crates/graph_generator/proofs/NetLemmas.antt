@@ -1,5 +1,5 @@
 -- Nets in the making.
-use Rattle.std.proofs.Common.{◌≡◌, ℕ, ◌<◌, List, length, map, get_or, All, subst}
+use Rattle.std.proofs.Common.{ℕ, ◌<◌, List, length, map, get_or, All, subst}
 use Rattle.std.proofs.lemmas.List.{get_or-map, length-map}
 use Rattle.graph_generator.specs.declared.edges.Edge.{Edge}
 use Rattle.graph_generator.specs.inside.Edges.{IsAmong, edge_row}

@@ -4,8 +4,6 @@ use Rattle.std.specs.Prelude.{ℕ, ◌+◌, ◌-◌, ◌*◌, ◌/◌, ◌%◌, 
 use Rattle.std.specs.List.{flat_map, range_with_len}
 use Rattle.task_graph.specs.declared.net.EdgeRow.{EdgeRow}
 use Rattle.task_graph.specs.declared.net.TaskRow.{TaskRow}
-use Rattle.pipe_lines.specs.declared.deferral.DeferRow.{DeferRow}
-use Rattle.pipe_lines.specs.declared.pipeline.PipeSpec.{PipeSpec}
 use Rattle.graph_plans.specs.declared.ops.Op.{Op}
 use Rattle.graph_plans.specs.declared.ops.Op.TheVariants.{Read, Text, IfMore, Pipe}
 use Rattle.graph_plans.specs.declared.ops.TextOp.{TextOp}

@@ -56,7 +56,6 @@ pub fn generate(alloc: Global, layers: u64) -> Result<Sample, NoMemory>
 
 // The graph of so many layers, by their draws.
 fn top_graph(alloc: Global, layers: usize, draws: &[u64]) -> Result<Graph, NoMemory>
-    requires some { 1 ≤ layers }
     requires few { layers ≤ max_layers }
     requires draws { draws.now ≡ drawn layers }
     ensures { IfOk result (λ graph. graph_rows graph ≡ generated_graph layers) }

@@ -1,4 +1,4 @@
-use Rattle.std.proofs.Common.{◌≡◌, ◌∙◌}
+use Rattle.std.proofs.Common.{◌∙◌}
 use Rattle.graph_generator.proofs.DrawLemmas.{draws-next, drawn-next}
 use Rattle.graph_generator.proofs.draws.draws_from.Goals as goal
 

@@ -1,6 +1,5 @@
-use Rattle.std.proofs.Common.{◌≡◌, ℕ, ◌+◌, ◌-◌, ◌*◌, ◌/◌, ◌++◌, List, map, filter, sym, ap, ◌∙◌, arith}
+use Rattle.std.proofs.Common.{◌≡◌, ℕ, ◌+◌, ◌-◌, ◌*◌, ◌/◌, ◌++◌, map, filter, sym, ap, ◌∙◌, arith}
 use Rattle.std.specs.List.{range_with_len}
-use Rattle.task_graph.specs.declared.net.EdgeRow.{EdgeRow}
 use Rattle.graph_generator.specs.GeneratedPlan.{edge, edge_draw, leads_to}
 use Rattle.graph_generator.specs.inside.Edges.{edge_row}
 use Rattle.graph_generator.proofs.DrawLemmas.{draw-at, draws-length, passing-dropped, passing-kept}

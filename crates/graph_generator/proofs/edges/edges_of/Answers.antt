@@ -1,6 +1,5 @@
-use Rattle.std.proofs.Common.{◌++◌, map, ap, sym, ◌∙◌}
+use Rattle.std.proofs.Common.{◌++◌, ap, sym, ◌∙◌}
 use Rattle.graph_generator.specs.GeneratedPlan.{layer_edges}
-use Rattle.graph_generator.specs.inside.Edges.{edge_row}
 use Rattle.graph_generator.proofs.DrawLemmas.{pieces-more}
 use Rattle.graph_generator.proofs.edges.edges_of.Goals as goal
 

@@ -1,4 +1,3 @@
-use Rattle.std.proofs.Common.{arith}
 use Rattle.graph_generator.specs.GeneratedPlan.{layer_name}
 use Rattle.graph_generator.proofs.DrawLemmas.{made-next}
 use Rattle.graph_generator.proofs.names.names_of.Goals as goal

@@ -1,4 +1,4 @@
-use Rattle.std.proofs.Common.{◌≡◌, ◌+◌, ◌*◌, ◌<◌, length, sym, ap, ◌∙◌, arith}
+use Rattle.std.proofs.Common.{◌+◌, ◌*◌, ap, ◌∙◌, arith}
 use Rattle.graph_generator.specs.GeneratedPlan.{layer_op, op_draw}
 use Rattle.graph_generator.proofs.DrawLemmas.{draw-at, draws-length, made-next}
 use Rattle.graph_generator.proofs.ops.ops_of.Goals as goal

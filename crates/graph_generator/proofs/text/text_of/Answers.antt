@@ -1,4 +1,4 @@
-use Rattle.std.proofs.Common.{◌≡◌, length, ap, ◌∙◌, arith}
+use Rattle.std.proofs.Common.{◌∙◌, arith}
 use Rattle.graph_generator.specs.GeneratedText.{text_lines}
 use Rattle.graph_generator.proofs.DrawLemmas.{draws-length, lines-next}
 use Rattle.graph_generator.proofs.text.text_of.Goals as goal
