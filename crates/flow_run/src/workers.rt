@@ -1,7 +1,8 @@
 // Rounds by so many workers.
-ghost use Rattle.std.specs.Prelude.{◌≡◌, ◌≢◌, [], false, length, IsTrue};
+ghost use Rattle.std.specs.Prelude.{◌≡◌, ◌≢◌, ◌≤◌, [], false, length, IsTrue};
 ghost use Rattle.std.specs.Arc.{arc_value};
 ghost use Rattle.command_line.specs.Rounds.{asked_rounds};
+ghost use Rattle.command_line.specs.declared.numbers.TheConstants.{GREATEST_WORKERS};
 ghost use Rattle.nested_runs.specs.Rounds.{AreAllRounds, AreFirstRounds};
 ghost use Rattle.text_tasks.specs.JobMeaning.{text_job, IsGraphJob};
 ghost use Rattle.topology_runs.specs.Teams.{IsReady, watchers_of};
@@ -43,7 +44,8 @@ pub(crate) fn run_rounds<R: Threads + Wait + Sync>(
     job: TextJob,
     watchers: &mut Vec<Box<dyn Watch + Send>>,
 ) -> RoundsRun
-    requires { IsGraphJob job }
+    requires workers { workers ≤ GREATEST_WORKERS }
+    requires graph { IsGraphJob job }
     ensures first { AreFirstRounds text_job job (round_rule (asked_rounds rounds.entry)) result.runs }
     ensures all { IsTrue result.whole
         → AreAllRounds text_job job (round_rule (asked_rounds rounds.entry)) result.runs }
