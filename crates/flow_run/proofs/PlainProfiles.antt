@@ -1,13 +1,12 @@
 -- In a fine run of a plan without conditions each task has a start and an end if it has a value by one thread, else
 -- neither, and no fault and no drop; so the rows of a profile are those that one thread works out.
-use Rattle.std.proofs.Common.{◌≡◌, ℕ, zero, suc, ◌+◌, ◌<◌, ◌≤◌, ◌==◌, Bool, true, false, cond, List, [], ◌∷◌, ◌++◌, length, map, get_or, Option, Some, None, is_some, count_by, filter, refl, sym, ap, ◌∙◌, subst, arith}
+use Rattle.std.proofs.Common.{◌≡◌, ℕ, ◌+◌, ◌<◌, ◌≤◌, ◌==◌, Bool, true, false, cond, List, [], ◌∷◌, length, map, get_or, Option, Some, None, is_some, count_by, filter, refl, sym, ap, ◌∙◌, subst, arith}
 use Rattle.std.specs.Prelude.{All, slice_get}
-use Rattle.std.specs.List.{flat_map, range_with_len}
+use Rattle.std.specs.List.{flat_map}
 use Rattle.std.specs.Option.{option_map_or}
 use Rattle.std.proofs.lemmas.List.Elements.{All-head, All-tail}
 use Rattle.std.proofs.lemmas.List.Sums.{sum_by-cons}
 use Rattle.std.proofs.lemmas.Option.{slice_get_within, slice_get-get_or}
-use Rattle.task_graph.specs.Net.{IsNet}
 use Rattle.task_graph.specs.NetRows.{NetRows}
 use Rattle.task_graph.specs.declared.net.EdgeRow.{EdgeRow}
 use Rattle.journal_rules.specs.Counts.{start_at}
@@ -23,7 +22,6 @@ use Rattle.run_frame.specs.Meaning.{Meaning}
 use Rattle.run_frame.specs.NestedRule.{job_of, journal_of}
 use Rattle.run_frame.specs.Runs.{IsFine, values_of}
 use Rattle.run_frame.specs.declared.run.FrameRun.{FrameRun}
-use Rattle.run_frame.specs.declared.run.ValueRow.{ValueRow}
 use Rattle.text_tasks.specs.JobMeaning.{names_of, net_of, text_job}
 use Rattle.text_tasks.specs.GraphWork.{graph_in, graph_of}
 use Rattle.text_tasks.specs.declared.job.TextJob.{TextJob}
@@ -197,14 +195,20 @@ follows_of_plan names (Graph work) next run follows is = record {
 follows_of_plan names (Parts work) next run follows is = absurd follows
 follows_of_plan names (Pipe work) next run follows is = absurd follows
 
+-- a plan's job is that of a graph
+of_graph : (job : TextJob) → IsPlanned job → text_plain.alone job ≡ None
+of_graph (Graph work) planned = refl
+of_graph (Parts work) planned = absurd planned
+of_graph (Pipe work) planned = absurd planned
+
 -- the row of a task in a fine run of such a plan
 run_row : (run : TextRun) → IsPlainJob (job_of run) → IsPlanned (job_of run) → IsKept text_job run → run_reason text_job run ≡ Fine → (t : ℕ) → t < length (net_of (job_of run)).tasks
     → kind_counts (task_entries t (journal_of run)) ≡ row_of (one_if (has_value t (job_of run))) (one_if (has_value t (job_of run)))
 run_row run plain planned kept fine t below =
-    let such : IsGraphJob text_plain greatest_depth (job_of run) = record { such = plain_to (job_of run) planned plain; graph = refl } in
-    let of_graph : IsGraphRun text_job run (text_answer (job_of run)) =
+    let such : IsGraphJob text_plain greatest_depth (job_of run) = record { such = plain_to (job_of run) planned plain; graph = of_graph (job_of run) planned } in
+    let is : IsGraphRun text_job run (text_answer (job_of run)) =
     graph_run text_job text_plain text_plainly greatest_depth run (text_answer (job_of run)) such (allows_plain text_job text_plain text_plainly greatest_depth (job_of run) such) kept.legal kept.complete in
-    fine_row text_job run (text_answer (job_of run)) of_graph (reason_counts text_job run kept.legal fine) t below
+    fine_row text_job run (text_answer (job_of run)) is (reason_counts text_job run kept.legal fine) t below
 
 -- what is known of a round: it is fine, and of a job of this plan
 record IsFineRound (names : List (List ℕ)) (run : TextRun) : Type 0 where
