@@ -71,12 +71,19 @@ edges-all P layers holds =
     let sum = 10 * layers in
     All-append P (flat_map (layer_edges layers) (range_with_len 0 sum)) (last_edges sum)
     (All-flat_map P (layer_edges layers) (range_with_len 0 sum) (All-range (λ t. All P (layer_edges layers t)) 0 sum (λ t from_ to_.
-        let within : t < 10 * layers = omega (arith, to_) in
-        let fits : t < 10 * layers + 7 = omega (arith, within) in
-        All-map P (edge t) (successors layers t) (λ i d place. holds t _ fits (successors-among layers t within i d place)))))
-    (All-from_recursion P (last_edges sum)
-      (holds (sum + 1) (sum + 2) (omega arith) (omega arith), (holds (sum + 2) (sum + 3) (omega arith) (omega arith), (holds (sum + 3) (sum + 2) (omega arith) (omega arith),
-        (holds (sum + 3) (sum + 4) (omega arith) (omega arith), (holds (sum + 5) (sum + 6) (omega arith) (omega arith), tt))))))
+    let within : t < 10 * layers = omega (arith, to_) in
+    let fits : t < 10 * layers + 7 = omega (arith, within) in
+    All-map P (edge t) (successors layers t) (λ i d place. holds t _ fits (successors-among layers t within i d place)))))
+    (All-from_recursion P (last_edges sum) (
+      holds (sum + 1) (sum + 2) (omega arith) (omega arith),
+      (
+        holds (sum + 2) (sum + 3) (omega arith) (omega arith),
+        (
+          holds (sum + 3) (sum + 2) (omega arith) (omega arith),
+          (holds (sum + 3) (sum + 4) (omega arith) (omega arith), (holds (sum + 5) (sum + 6) (omega arith) (omega arith), tt)),
+        ),
+      ),
+    ))
 
 pub edges-count : (layers : ℕ) → layers ≤ max_layers → length (generated_edges layers) ≤ 100000
 edges-count layers few =

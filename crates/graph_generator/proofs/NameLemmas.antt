@@ -15,9 +15,10 @@ use Rattle.graph_generator.specs.GeneratedPlan.{generated_names, last_names, lay
 
 push-same : (xs ys : List ℕ) (a b : ℕ) → xs ++ a ∷ [] ≡ ys ++ b ∷ [] → (xs ≡ ys) × (a ≡ b)
 push-same xs ys a b same =
-    let count : length ys ≡ length xs = omega (arith, length_push xs a, length_push ys b, ap length same) in
-    ( sym (take_at xs (a ∷ []) (length xs) refl) ∙ ap (take (length xs)) same ∙ take_at ys (b ∷ []) (length xs) count
-    , sym (get_or_push xs a 0 (length xs) refl) ∙ ap (λ l. get_or l (length xs) 0) same ∙ get_or_push ys b 0 (length xs) count )
+    let count : length ys ≡ length xs = omega (arith, length_push xs a, length_push ys b, ap length same) in (
+      sym (take_at xs (a ∷ []) (length xs) refl) ∙ ap (take (length xs)) same ∙ take_at ys (b ∷ []) (length xs) count,
+      sym (get_or_push xs a 0 (length xs) refl) ∙ ap (λ l. get_or l (length xs) 0) same ∙ get_or_push ys b 0 (length xs) count,
+    )
 
 -- a name has one digit behind its `_`, so the layer and the number in it can be read off
 same-task : (i j : ℕ) → i < 10000 → j < 10000 → layer_name i ≡ layer_name j → i ≡ j
@@ -50,10 +51,13 @@ same_key a b = eqb (key a) (key b)
 
 last-distinct : IsDistinct same_key last_names
 unfolding IsDistinct
-last-distinct =
-    ( (refl, (refl, (refl, (refl, (refl, (refl, tt))))))
-    , ( (refl, (refl, (refl, (refl, (refl, tt)))))
-      , ((refl, (refl, (refl, (refl, tt)))), ((refl, (refl, (refl, tt))), ((refl, (refl, tt)), ((refl, tt), (tt, tt))))) ) )
+last-distinct = (
+  (refl, (refl, (refl, (refl, (refl, (refl, tt)))))),
+  (
+    (refl, (refl, (refl, (refl, (refl, tt))))),
+    ((refl, (refl, (refl, (refl, tt)))), ((refl, (refl, (refl, tt))), ((refl, (refl, tt)), ((refl, tt), (tt, tt))))),
+  ),
+)
 
 last-differ : AllDiffer last_names
 last-differ i j d before within same = eqb-false _ _ (apart_from_distinct same_key last_names i j d last-distinct before within) (ap key same)

@@ -104,7 +104,16 @@ op-rules = record { reads = omega arith; head = omega arith; tail = omega arith;
 
 pipelines-rules : HoldsOfOps HasPipeline
 pipelines-rules = record {
-  reads = tt; head = tt; tail = tt; sort = tt; uniq = tt; keep = tt; tally = tt; skip = tt; if_more = tt; pass = tt;
+  reads = tt;
+  head = tt;
+  tail = tt;
+  sort = tt;
+  uniq = tt;
+  keep = tt;
+  tally = tt;
+  skip = tt;
+  if_more = tt;
+  pass = tt;
   pipe = record { some_lines = omega arith; first_serial = refl; few_lines = omega arith; few_pipes = omega arith };
 }
 

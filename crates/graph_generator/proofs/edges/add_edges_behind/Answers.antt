@@ -22,12 +22,12 @@ loop-to-preserved c =
     let drawn_here = draw-at layers (180 + 20 * layers) c.args.draws.now (181 + 2 * to) 0 (omega (arith, c.loop-to-test.true, c.requires.behind)) c.requires.draws in
     let tested = c.leads_to.ensures ∙ ap (leads_to task to) drawn_here in
     elim c.if-leads_to.branch [
-      then-leads_to+in_ok-add_edge w ↦
-        one-more (map edge_row c.args.edges.now) (map (edge task) (filter leads (range_with_len first (to - first)))) (map (edge task) (filter leads (range_with_len first (to + 1 - first)))) (map edge_row c.loop-to.edges) (map edge_row c.if-leads_to.edges) (edge task to)
-        c.loop-to.invariant (ap (map edge_row) w.edges-is ∙ w.in_ok-add_edge.ensures) (passing-kept (edge task) leads first to c.loop-to.auto.to (sym tested ∙ w.if-leads_to.true))
-    | else-leads_to w ↦
-        ap (map edge_row) w.edges-is ∙ c.loop-to.invariant
-        ∙ ap (λ rows. map edge_row c.args.edges.now ++ rows) (sym (passing-dropped (edge task) leads first to c.loop-to.auto.to (sym tested ∙ w.if-leads_to.false)))
+      | then-leads_to+in_ok-add_edge w ↦
+          one-more (map edge_row c.args.edges.now) (map (edge task) (filter leads (range_with_len first (to - first)))) (map (edge task) (filter leads (range_with_len first (to + 1 - first)))) (map edge_row c.loop-to.edges) (map edge_row c.if-leads_to.edges) (edge task to)
+          c.loop-to.invariant (ap (map edge_row) w.edges-is ∙ w.in_ok-add_edge.ensures) (passing-kept (edge task) leads first to c.loop-to.auto.to (sym tested ∙ w.if-leads_to.true))
+      | else-leads_to w ↦
+          ap (map edge_row) w.edges-is ∙ c.loop-to.invariant
+          ∙ ap (λ rows. map edge_row c.args.edges.now ++ rows) (sym (passing-dropped (edge task) leads first to c.loop-to.auto.to (sym tested ∙ w.if-leads_to.false)))
     ]
 
 pub returns : goal.returns
