@@ -6,7 +6,7 @@ use Rattle.graph_plans.specs.declared.ops.TextOp.TheVariants.{Pass, Keep, Head, 
 use Rattle.task_graph.specs.declared.net.Shape.TheVariants.{Plain, Choice, Nested}
 use Rattle.graph_generator.specs.Draws.{next_state, state_after, draw}
 use Rattle.graph_generator.specs.GeneratedText.{text_line, text_lines, generated_text}
-use Rattle.graph_generator.specs.GeneratedPlan.{max_layers, op_draw, edge_draw, layer_name, layer_op, other_before, leads_to, next_layer, tasks_behind, successors, generated_pipeline, edge, layer_tasks, generated_names, generated_ops, layer_edges, generated_edges, generated_row, generated_graph, generated_plan}
+use Rattle.graph_generator.specs.GeneratedPlan.{max_layers, op_draw, edge_draw, layer_name, layer_op, second_before, leads_to, next_layer, tasks_behind, successors, generated_pipeline, edge, layer_tasks, generated_names, generated_ops, layer_edges, generated_edges, generated_row, generated_graph, generated_plan}
 use Rattle.graph_generator.specs.inside.Drawn.{draws, drawn}
 use Rattle.graph_generator.specs.inside.Edges.{IsAmong, edge_row}
 
@@ -91,13 +91,13 @@ first_edge_draw : edge_draw 2 10 ≡ draw 2 201
 first_edge_draw = refl
 
 -- The second predecessor is 1 to 9 places behind the first one, in a circle.
-next_in_circle : other_before 10 9 ≡ 1
+next_in_circle : second_before 10 9 ≡ 1
 next_in_circle = refl
 
-last_in_circle : other_before 10 8 ≡ 9
+last_in_circle : second_before 10 8 ≡ 9
 last_in_circle = refl
 
-over_the_end : other_before 29 3 ≡ 13
+over_the_end : second_before 29 3 ≡ 13
 over_the_end = refl
 
 to_its_own_number : leads_to 4 14 0 ≡ true

@@ -20,11 +20,13 @@ max_layers = 900
 
 -- ---- the layers: task t is number t % 10 of layer t / 10
 
--- The first 200 draws are the text's. Then each task behind the first layer takes two: one for its operation,
+-- The first 200 draws are the text's. Then each task takes two, in the order of tasks; those of the first layer take none.
+
+-- the draw for what a task does
 abbrev pub op_draw : ℕ → ℕ → ℕ
 op_draw layers t = draw layers (180 + 2 * t)
 
--- and one for its second predecessor.
+-- the draw for its second predecessor
 abbrev pub edge_draw : ℕ → ℕ → ℕ
 edge_draw layers t = draw layers (181 + 2 * t)
 
@@ -45,13 +47,13 @@ abbrev pub layer_op : ℕ → ℕ → Op
 layer_op t d = if t / 10 == 0 then Read 0 else Text (if t / 10 % 2 == 1 then odd_op d else even_op d)
 
 -- of the layer before a task, the second one that hands it something, by its draw; never the one with its own number
-abbrev pub other_before : ℕ → ℕ → ℕ
-other_before t d = 10 * (t / 10 - 1) + (t % 10 + (d % 9 + 1)) % 10
+abbrev pub second_before : ℕ → ℕ → ℕ
+second_before t d = 10 * (t / 10 - 1) + (t % 10 + (d % 9 + 1)) % 10
 
 -- whether a task hands something to this one of the next layer, by that one's draw: to the one with its own number, and
 -- to each of which it is the second predecessor
 abbrev pub leads_to : ℕ → ℕ → ℕ → Bool
-leads_to t next d = (next == t + 10) || (other_before next d == t)
+leads_to t next d = (next == t + 10) || (second_before next d == t)
 
 -- the tasks of the layer behind that of a task
 unfoldable pub next_layer : ℕ → List ℕ
