@@ -7,7 +7,7 @@ use Rattle.std.proofs.lemmas.List.Elements.{All-append, All-filter, All-from_rec
 use Rattle.std.proofs.lemmas.List.FromFn.{get_or-range_with_len, length-range_with_len}
 use Rattle.std.proofs.lemmas.List.Sums.{count_by-le-length, length-filter}
 use Rattle.task_graph.specs.declared.net.EdgeRow.{EdgeRow}
-use Rattle.graph_generator.specs.GeneratedPlan.{edge, edge_draw, generated_edges, last_edges, layer_edges, leads_to, max_layers, next_layer, successors, tasks_behind}
+use Rattle.graph_generator.specs.GeneratedPlan.{edge, edge_draw, generated_edges, last_edges, layer_edges, layer_tasks, leads_to, max_layers, next_layer, successors, tasks_behind}
 
 -- ---- as they are made
 
@@ -69,8 +69,8 @@ edges-few layers t = omega (arith, length-map (successors layers t) (edge t), fe
 pub edges-all : (P : EdgeRow → Type 0) (layers : ℕ) → ((from to : ℕ) → from < 10 * layers + 7 → to < 10 * layers + 7 → P (edge from to)) → All P (generated_edges layers)
 edges-all P layers holds =
     let sum = 10 * layers in
-    All-append P (flat_map (layer_edges layers) (range_with_len 0 sum)) (last_edges sum)
-    (All-flat_map P (layer_edges layers) (range_with_len 0 sum) (All-range (λ t. All P (layer_edges layers t)) 0 sum (λ t from_ to_.
+    All-append P (flat_map (layer_edges layers) (layer_tasks layers)) (last_edges sum)
+    (All-flat_map P (layer_edges layers) (layer_tasks layers) (All-range (λ t. All P (layer_edges layers t)) 0 sum (λ t from_ to_.
     let within : t < 10 * layers = omega (arith, to_) in
     let fits : t < 10 * layers + 7 = omega (arith, within) in
     All-map P (edge t) (successors layers t) (λ i d place. holds t _ fits (successors-among layers t within i d place)))))
@@ -88,5 +88,5 @@ edges-all P layers holds =
 pub edges-count : (layers : ℕ) → layers ≤ max_layers → length (generated_edges layers) ≤ 100000
 edges-count layers few =
     let sum = 10 * layers in
-    let parts = flat_map (layer_edges layers) (range_with_len 0 sum) in
-    omega (arith, few, length-append parts (last_edges sum), flat_map-few (layer_edges layers) (range_with_len 0 sum) (edges-few layers), length-range_with_len 0 sum)
+    let parts = flat_map (layer_edges layers) (layer_tasks layers) in
+    omega (arith, few, length-append parts (last_edges sum), flat_map-few (layer_edges layers) (layer_tasks layers) (edges-few layers), length-range_with_len 0 sum)

@@ -9,7 +9,7 @@ use Rattle.std.proofs.lemmas.List.Elements.{All-from_recursion}
 use Rattle.std.proofs.lemmas.List.FromFn.{get_or-map-range_with_len, length-map-range_with_len}
 use Rattle.std.proofs.lemmas.Map.Keys.{apart_from_distinct}
 use Rattle.graph_plans.specs.PlanRows.{AllDiffer}
-use Rattle.graph_generator.specs.GeneratedPlan.{generated_names, last_names, layer_name, max_layers}
+use Rattle.graph_generator.specs.GeneratedPlan.{generated_names, last_names, layer_name, layer_tasks, max_layers}
 
 -- ---- the layers
 
@@ -90,7 +90,7 @@ layer-begins n i d within = ap (λ name. get_or name 0 0) (get_or-map-range_with
 
 pub generated-differ : (layers : ℕ) → layers ≤ max_layers → AllDiffer (generated_names layers)
 generated-differ layers few =
-    let names = map layer_name (range_with_len 0 (10 * layers)) in
+    let names = map layer_name (layer_tasks layers) in
     let count = length-map-range_with_len layer_name 0 (10 * layers) in
     differ-append names last_names (layers-differ (10 * layers) (omega (arith, few))) last-differ
     (λ i j d first last same. last-begin j d last (sym (ap (λ name. get_or name 0 0) same) ∙ layer-begins (10 * layers) i d (omega (arith, count, first))))

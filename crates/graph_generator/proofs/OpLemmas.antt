@@ -1,6 +1,5 @@
 -- The operations of generated tasks.
 use Rattle.std.proofs.Common.{◌≡◌, ℕ, ◌+◌, ◌*◌, ◌/◌, ◌%◌, ◌==◌, Bool, true, false, if◌then◌else◌, List, [], ◌∷◌, length, map, All, codes, refl, ap, ◌∙◌, arith}
-use Rattle.std.specs.List.{range_with_len}
 use Rattle.std.proofs.lemmas.List.{length-append}
 use Rattle.std.proofs.lemmas.List.Elements.{All-append, All-from_recursion, All-head, All-map, All-tail}
 use Rattle.std.proofs.lemmas.List.FromFn.{length-map-range_with_len}
@@ -9,7 +8,7 @@ use Rattle.graph_plans.specs.declared.ops.Op.TheVariants.{Read, Text, IfMore, Pi
 use Rattle.graph_plans.specs.declared.ops.TextOp.{TextOp}
 use Rattle.graph_plans.specs.declared.ops.TextOp.TheVariants.{Pass, Keep, Head, Tail, Skip, Sort, Uniq, Tally}
 use Rattle.graph_plans.specs.ModuleUses.{modules_run, run_before}
-use Rattle.graph_generator.specs.GeneratedPlan.{even_op, generated_ops, generated_pipeline, last_ops, layer_op, odd_op, op_draw}
+use Rattle.graph_generator.specs.GeneratedPlan.{even_op, generated_ops, generated_pipeline, last_ops, layer_op, layer_tasks, odd_op, op_draw}
 use Rattle.graph_generator.proofs.EdgeLemmas.{All-range}
 
 either-fits : {X : Type 0} (P : X → Type 0) (b : Bool) (x y : X) → P x → P y → P (if b then x else y)
@@ -42,14 +41,14 @@ layer_op-fits P holds t d =
 pub ops-all : (P : Op → Type 0) (layers : ℕ) → HoldsOfOps P → All P (generated_ops layers)
 ops-all P layers holds =
     let op = λ (t : ℕ). layer_op t (op_draw layers t) in
-    All-append P (map op (range_with_len 0 (10 * layers))) last_ops
-    (All-map P op (range_with_len 0 (10 * layers)) (All-range (λ t. P (op t)) 0 (10 * layers) (λ t from_ to_. layer_op-fits P holds t (op_draw layers t))))
+    All-append P (map op (layer_tasks layers)) last_ops
+    (All-map P op (layer_tasks layers) (All-range (λ t. P (op t)) 0 (10 * layers) (λ t from_ to_. layer_op-fits P holds t (op_draw layers t))))
     (All-from_recursion P last_ops (holds.tally, (holds.reads, (holds.skip, (holds.if_more, (holds.pass, (holds.reads, (holds.pipe, tt))))))))
 
 pub ops-count : (layers : ℕ) → length (generated_ops layers) ≡ 10 * layers + 7
 ops-count layers =
     let op = λ (t : ℕ). layer_op t (op_draw layers t) in
-    omega (arith, length-append (map op (range_with_len 0 (10 * layers))) last_ops, length-map-range_with_len op 0 (10 * layers))
+    omega (arith, length-append (map op (layer_tasks layers)) last_ops, length-map-range_with_len op 0 (10 * layers))
 
 -- no task runs a module
 runs-none : (ops : List Op) → All (λ op. run_before [] op ≡ []) ops → modules_run ops ≡ []

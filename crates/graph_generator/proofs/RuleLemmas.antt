@@ -1,7 +1,7 @@
 -- Generated plans keep the rules of plans.
 use Rattle.std.proofs.Common.{◌≡◌, ℕ, zero, suc, ◌+◌, ◌*◌, ◌<◌, ◌≤◌, Bool, true, false, eqb, List, [], ◌∷◌, length, map, Option, Some, slice_get, codes, refl, ap, ◌∙◌, arith}
 use Rattle.std.specs.Option.{option_map_or}
-use Rattle.std.specs.List.{IsDistinct, range_with_len}
+use Rattle.std.specs.List.{IsDistinct}
 use Rattle.std.proofs.lemmas.Bool.{eqb-false, false≢true}
 use Rattle.std.proofs.lemmas.List.{length-append, length-map}
 use Rattle.std.proofs.lemmas.List.Elements.{All-from_recursion, All-map, All-nil}
@@ -20,7 +20,7 @@ use Rattle.graph_plans.specs.declared.pipes.LineOp.{LineOp}
 use Rattle.graph_plans.specs.declared.pipes.LineOp.TheVariants.{Text as LineText, Number, Stamp}
 use Rattle.graph_plans.specs.Operations.{HasPipeline, IsLineOp, IsOp, IsPipePlan, shape_of}
 use Rattle.graph_plans.specs.PlanRows.{AllDiffer, HasPipelines, IsGraph, IsPlan, IsTextName, graph_rows, plan_rows}
-use Rattle.graph_generator.specs.GeneratedPlan.{generated_graph, generated_ops, generated_pipeline, generated_plan, generated_row, last_names, layer_name, max_layers}
+use Rattle.graph_generator.specs.GeneratedPlan.{generated_graph, generated_ops, generated_pipeline, generated_plan, generated_row, last_names, layer_name, layer_tasks, max_layers}
 use Rattle.graph_generator.proofs.EdgeLemmas.{edges-all, edges-count}
 use Rattle.graph_generator.proofs.NameLemmas.{generated-differ}
 use Rattle.graph_generator.proofs.OpLemmas.{HoldsOfOps, ops-all, ops-count, runs-no-module}
@@ -128,7 +128,7 @@ none-differ i j d before within = absurd (omega (arith, within))
 
 graph-keeps : (layers : ℕ) → layers ≤ max_layers → IsGraph 1 0 (generated_graph layers)
 graph-keeps layers few =
-    let names = map layer_name (range_with_len 0 (10 * layers)) in
+    let names = map layer_name (layer_tasks layers) in
     record {
       net = net-keeps layers few;
       no_first_tokens = edges-all (λ (row : EdgeRow). row.start ≡ false) layers (λ from_ to_ in_from in_to. refl);

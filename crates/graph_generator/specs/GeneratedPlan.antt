@@ -1,5 +1,5 @@
--- Plans of any size, made from a number of layers: ten tasks a layer, of which each but the first layer's takes what two
--- of the layer before hand it; then one that tallies the last layer, a loop, and a pipeline.
+-- Plans of any size, made from a number of layers: ten tasks a layer, of which each behind the first layer takes what two
+-- of the layer before hand it; then a task that tallies the last layer, a loop, and a pipeline.
 use Rattle.std.specs.Prelude.{ℕ, ◌+◌, ◌-◌, ◌*◌, ◌/◌, ◌%◌, ◌==◌, Bool, true, false, ◌||◌, List, [], ◌∷◌, ◌++◌, map, filter, codes, decimal, if◌then◌else◌}
 use Rattle.std.specs.List.{flat_map, range_with_len}
 use Rattle.task_graph.specs.declared.net.EdgeRow.{EdgeRow}
@@ -20,11 +20,13 @@ max_layers = 900
 
 -- ---- the layers: task t is number t % 10 of layer t / 10
 
--- The first 200 draws are the text's. Then each task behind the first layer takes two: one for its operation,
+-- The first 200 draws are the text's. Then each task takes two, in the order of tasks; those of the first layer take none.
+
+-- the draw for what a task does
 abbrev pub op_draw : ℕ → ℕ → ℕ
 op_draw layers t = draw layers (180 + 2 * t)
 
--- and one for its second predecessor.
+-- the draw for its second predecessor
 abbrev pub edge_draw : ℕ → ℕ → ℕ
 edge_draw layers t = draw layers (181 + 2 * t)
 
@@ -32,11 +34,11 @@ edge_draw layers t = draw layers (181 + 2 * t)
 abbrev pub layer_name : ℕ → List ℕ
 layer_name t = codes "g" ++ decimal (t / 10) ++ codes "_" ++ decimal (t % 10)
 
--- in odd layers the first lines or the last ones
+-- in odd layers the first 100 lines or the last 100
 abbrev pub odd_op : ℕ → TextOp
 odd_op d = if d % 2 == 0 then Head 100 else Tail 100
 
--- in even layers the lines in order, without repetitions, or those with a 1
+-- in even layers the lines in order, the lines without repetitions, or those in which a 1 occurs
 abbrev pub even_op : ℕ → TextOp
 even_op d = if d % 3 == 0 then Sort else if d % 3 == 1 then Uniq else Keep (codes "1")
 
@@ -44,13 +46,14 @@ even_op d = if d % 3 == 0 then Sort else if d % 3 == 1 then Uniq else Keep (code
 abbrev pub layer_op : ℕ → ℕ → Op
 layer_op t d = if t / 10 == 0 then Read 0 else Text (if t / 10 % 2 == 1 then odd_op d else even_op d)
 
--- of the layer before a task, the other one that hands it something, beside the one of its own number, by its draw
-abbrev pub other_before : ℕ → ℕ → ℕ
-other_before t d = 10 * (t / 10 - 1) + (t % 10 + (d % 9 + 1)) % 10
+-- of the layer before a task, the second one that hands it something, by its draw; never the one with its own number
+abbrev pub second_before : ℕ → ℕ → ℕ
+second_before t d = 10 * (t / 10 - 1) + (t % 10 + (d % 9 + 1)) % 10
 
--- whether a task hands something to this one of the next layer, by that one's draw
+-- whether a task hands something to this one of the next layer, by that one's draw: to the one with its own number, and
+-- to each of which it is the second predecessor
 abbrev pub leads_to : ℕ → ℕ → ℕ → Bool
-leads_to t next d = (next == t + 10) || (other_before next d == t)
+leads_to t next d = (next == t + 10) || (second_before next d == t)
 
 -- the tasks of the layer behind that of a task
 unfoldable pub next_layer : ℕ → List ℕ
@@ -75,7 +78,7 @@ generated_pipeline = record {
   defers = record { token = 1; to = 3 ∷ [] } ∷ record { token = 2; to = 1 ∷ [] } ∷ [];
 }
 
--- the names of the seven tasks
+-- the names of the seven tasks; the first has number 10 * layers
 abbrev pub last_names : List (List ℕ)
 last_names = codes "sum" ∷ codes "init" ∷ codes "body" ∷ codes "more" ∷ codes "done" ∷ codes "pr" ∷ codes "pp" ∷ []
 
@@ -93,13 +96,17 @@ last_edges sum = edge (sum + 1) (sum + 2) ∷ edge (sum + 2) (sum + 3) ∷ edge 
 
 -- ---- all together
 
+-- the numbers of the tasks of all layers
+abbrev pub layer_tasks : ℕ → List ℕ
+layer_tasks layers = range_with_len 0 (10 * layers)
+
 -- the names of the tasks
 abbrev pub generated_names : ℕ → List (List ℕ)
-generated_names layers = map layer_name (range_with_len 0 (10 * layers)) ++ last_names
+generated_names layers = map layer_name (layer_tasks layers) ++ last_names
 
 -- what they do
 abbrev pub generated_ops : ℕ → List Op
-generated_ops layers = map (λ t. layer_op t (op_draw layers t)) (range_with_len 0 (10 * layers)) ++ last_ops
+generated_ops layers = map (λ t. layer_op t (op_draw layers t)) (layer_tasks layers) ++ last_ops
 
 -- the edges out of a task of a layer
 abbrev pub layer_edges : ℕ → ℕ → List EdgeRow
@@ -107,7 +114,7 @@ layer_edges layers t = map (edge t) (successors layers t)
 
 -- all edges, in the order of the tasks that they leave
 abbrev pub generated_edges : ℕ → List EdgeRow
-generated_edges layers = flat_map (layer_edges layers) (range_with_len 0 (10 * layers)) ++ last_edges (10 * layers)
+generated_edges layers = flat_map (layer_edges layers) (layer_tasks layers) ++ last_edges (10 * layers)
 
 -- the row of a task in the net; none takes or puts a semaphore
 abbrev pub generated_row : Op → TaskRow

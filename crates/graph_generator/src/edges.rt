@@ -1,6 +1,6 @@
 // The edges of generated graphs.
 ghost use Rattle.std.specs.Prelude.{◌≡◌, ◌≤◌, ◌<◌, ◌+◌, ◌*◌, ◌/◌, ◌++◌, [], ◌∷◌, IfOk, OnOk, map};
-ghost use Rattle.graph_generator.specs.GeneratedPlan.{edge, generated_edges, last_edges, layer_edges, leads_to, max_layers, other_before, tasks_behind};
+ghost use Rattle.graph_generator.specs.GeneratedPlan.{edge, generated_edges, last_edges, layer_edges, leads_to, max_layers, second_before, tasks_behind};
 ghost use Rattle.graph_generator.specs.inside.Drawn.{drawn};
 ghost use Rattle.graph_generator.specs.inside.Edges.{edge_row};
 
@@ -42,13 +42,13 @@ fn add_layer_edges(
     ensures { OnOk result (map edge_row edges.new ≡ map edge_row edges.old ++ layer_edges layers task) }
 {
     if task / LAYER_WIDTH + 1 == layers {
-        add_edge(edges, task, LAYER_WIDTH * layers)
+        push_edge(edges, task, LAYER_WIDTH * layers)
     } else {
         add_edges_behind(edges, task, layers, draws)
     }
 }
 
-// The edges out of a task into the next layer.
+// The edges out of a task into the next layer. By draw 181 + 2 * t task t has its second predecessor.
 fn add_edges_behind(
     edges: &mut List<Edge>,
     task: usize,
@@ -64,13 +64,14 @@ fn add_edges_behind(
     let next = LAYER_WIDTH * (task / LAYER_WIDTH + 1);
     for to in next..next + LAYER_WIDTH {
         if leads_to(task, to, draws[181 + 2 * to]) {
-            add_edge(edges, task, to)?;
+            push_edge(edges, task, to)?;
         }
     }
     Ok(())
 }
 
-fn add_edge(edges: &mut List<Edge>, from: usize, to: usize) -> Result<(), NoMemory>
+// An edge at the end.
+fn push_edge(edges: &mut List<Edge>, from: usize, to: usize) -> Result<(), NoMemory>
     ensures { OnOk result (map edge_row edges.new ≡ map edge_row edges.old ++ edge from to ∷ []) }
 {
     edges.push(Edge { from, to })?;
@@ -83,13 +84,13 @@ fn leads_to(task: usize, next: usize, drawn: u64) -> bool
     requires later { 10 ≤ next }
     ensures { result ≡ leads_to task next drawn }
 {
-    next == task + LAYER_WIDTH || other_before(next, drawn) == task
+    next == task + LAYER_WIDTH || second_before(next, drawn) == task
 }
 
-// Of the layer before a task, the other one that hands it something.
-fn other_before(task: usize, drawn: u64) -> usize
+// Of the layer before a task, the second one that hands it something.
+fn second_before(task: usize, drawn: u64) -> usize
     requires later { 10 ≤ task }
-    ensures { result ≡ other_before task drawn }
+    ensures { result ≡ second_before task drawn }
 {
     let shift = (drawn % 9) as usize + 1;
     LAYER_WIDTH * (task / LAYER_WIDTH - 1) + (task % LAYER_WIDTH + shift) % LAYER_WIDTH
@@ -100,9 +101,9 @@ fn add_last_edges(edges: &mut List<Edge>, sum: usize) -> Result<(), NoMemory>
     requires { sum ≤ 10 * max_layers }
     ensures { OnOk result (map edge_row edges.new ≡ map edge_row edges.old ++ last_edges sum) }
 {
-    add_edge(edges, sum + 1, sum + 2)?;
-    add_edge(edges, sum + 2, sum + 3)?;
-    add_edge(edges, sum + 3, sum + 2)?;
-    add_edge(edges, sum + 3, sum + 4)?;
-    add_edge(edges, sum + 5, sum + 6)
+    push_edge(edges, sum + 1, sum + 2)?;
+    push_edge(edges, sum + 2, sum + 3)?;
+    push_edge(edges, sum + 3, sum + 2)?;
+    push_edge(edges, sum + 3, sum + 4)?;
+    push_edge(edges, sum + 5, sum + 6)
 }

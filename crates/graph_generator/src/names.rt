@@ -28,6 +28,7 @@ fn layer_name(alloc: Global, task: usize) -> Result<Bytes, NoMemory>
     Ok(name)
 }
 
+// The names of the tasks behind the layers.
 fn add_last_names(alloc: Global, names: &mut List<Bytes>) -> Result<(), NoMemory>
     ensures { OnOk result (names.new ≡ names.old ++ last_names) }
 {

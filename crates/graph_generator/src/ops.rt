@@ -23,6 +23,7 @@ pub(crate) fn ops_of(alloc: Global, layers: usize, draws: &[u64]) -> Result<List
     Ok(ops)
 }
 
+// What a task of a layer does, by draw 180 + 2 * t where its number is t.
 fn layer_op(alloc: Global, task: usize, drawn: u64) -> Result<Op, NoMemory>
     ensures { IfOk result (λ op. op ≡ layer_op task drawn) }
 {
@@ -38,6 +39,7 @@ fn layer_op(alloc: Global, task: usize, drawn: u64) -> Result<Op, NoMemory>
     Ok(Op::Text(op))
 }
 
+// In odd layers.
 fn odd_op(drawn: u64) -> TextOp
     ensures { result ≡ odd_op drawn }
 {
@@ -48,6 +50,7 @@ fn odd_op(drawn: u64) -> TextOp
     }
 }
 
+// In even layers.
 fn even_op(alloc: Global, drawn: u64) -> Result<TextOp, NoMemory>
     ensures { IfOk result (λ op. op ≡ even_op drawn) }
 {
@@ -58,6 +61,7 @@ fn even_op(alloc: Global, drawn: u64) -> Result<TextOp, NoMemory>
     })
 }
 
+// What the tasks behind the layers do.
 fn add_last_ops(alloc: Global, ops: &mut List<Op>) -> Result<(), NoMemory>
     ensures { OnOk result (ops.new ≡ ops.old ++ last_ops) }
 {
@@ -93,6 +97,7 @@ fn pipeline(alloc: Global) -> Result<PipePlan, NoMemory>
     })
 }
 
+// A token that waits for one other.
 fn defer(alloc: Global, token: u64, to: u64) -> Result<DeferRow, NoMemory>
     ensures { IfOk result (λ row. row ≡ record { token = token; to = to ∷ [] }) }
 {
