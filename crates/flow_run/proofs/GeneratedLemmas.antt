@@ -3,8 +3,7 @@ use Rattle.std.proofs.Common.{◌≡◌, ℕ, zero, suc, ◌+◌, ◌*◌, ◌%�
 use Rattle.std.specs.Prelude.{All, decimal}
 use Rattle.std.specs.List.{flat_map, range_with_len}
 use Rattle.std.proofs.lemmas.Fmt.{length-decimal-le}
-use Rattle.std.proofs.lemmas.List.{append_assoc, length-append, length-map}
-use Rattle.std.proofs.lemmas.List.FromFn.{length-map-range_with_len}
+use Rattle.std.proofs.lemmas.List.{append_assoc, length-append}
 use Rattle.std.proofs.Math.Nat.{mod-lt}
 use Rattle.std.proofs.lemmas.List.Elements.{All-cons, All-nil}
 use Rattle.command_line.specs.Requests.{once}
@@ -16,11 +15,11 @@ use Rattle.text_tasks.specs.declared.job.TextJob.{TextJob}
 use Rattle.text_tasks.specs.GraphWork.{IsWork, first_work, greatest_limit}
 use Rattle.text_tasks.specs.JobMeaning.{net_of, text_job}
 use Rattle.text_tasks.specs.ValueTexts.{IsValueText}
-use Rattle.graph_plans.specs.declared.ops.Op.{Op}
 use Rattle.graph_plans.specs.PlanRows.{IsPlan, PlanRows}
 use Rattle.graph_generator.specs.Draws.{draw}
-use Rattle.graph_generator.specs.GeneratedPlan.{generated_ops, generated_plan, generated_row, last_ops, layer_op, op_draw}
+use Rattle.graph_generator.specs.GeneratedPlan.{generated_plan}
 use Rattle.graph_generator.specs.GeneratedText.{generated_text, text_line, text_lines}
+use Rattle.graph_generator.proofs.RuleLemmas.{rows-count}
 use Rattle.flow_run.specs.Generated.{IsGeneratedJob, generated_job}
 use Rattle.flow_run.specs.RoundTexts.{TextRun, round_rule}
 
@@ -64,11 +63,7 @@ generated_value layers = record {
 
 -- ten for each layer, and seven behind them
 pub generated_tasks : (layers : ℕ) → length (net_of (generated_job layers)).tasks ≡ 10 * layers + 7
-generated_tasks layers =
-    let layer_ops : List Op = map (λ t. layer_op t (op_draw layers t)) (range_with_len 0 (10 * layers)) in
-    length-map (generated_ops layers) generated_row
-    ∙ length-append layer_ops last_ops
-    ∙ ap (λ n. n + 7) (length-map-range_with_len (λ t. layer_op t (op_draw layers t)) 0 (10 * layers))
+generated_tasks = rows-count
 
 -- so has each run of the job, which is run once
 pub tasks_of_runs : (layers : ℕ) (job : TextJob) (runs : List TextRun) → IsGeneratedJob layers job → AreFirstRounds text_job job (round_rule once) runs

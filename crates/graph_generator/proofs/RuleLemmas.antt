@@ -33,7 +33,7 @@ none-of net = record { rising = λ k within. absurd (omega (arith, within)); in_
 row-fits : (net : NetRows) (op : Op) → IsTaskOf net (generated_row op)
 row-fits net op = record { takes = none-of net; puts = none-of net }
 
-rows-count : (layers : ℕ) → length (map generated_row (generated_ops layers)) ≡ 10 * layers + 7
+pub rows-count : (layers : ℕ) → length (map generated_row (generated_ops layers)) ≡ 10 * layers + 7
 rows-count layers = length-map (generated_ops layers) generated_row ∙ ops-count layers
 
 net-keeps : (layers : ℕ) → layers ≤ max_layers → IsNet (generated_graph layers).net
