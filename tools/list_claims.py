@@ -28,7 +28,7 @@ UNCLAIMED = {
         "run_laws/specs/TextAnswers.antt: IsPlanned",
     ),
     "cited only by the law that text jobs are plain": (
-        "run_laws/specs/PlainJobs.antt: IsGraphJob IsInside IsPlainly LeadsTo",
+        "run_laws/specs/PlainJobs.antt: IsGraphJob IsInside IsPlainly",
     ),
     "a proof itself: a law that the trait Job asks of text jobs, or one that it stands on": (
         "text_tasks/specs/JobLaws.antt: text_answers_fit text_faults_own text_gather_faults_own"
