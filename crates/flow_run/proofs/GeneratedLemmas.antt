@@ -1,18 +1,24 @@
 -- The text and the tasks of generated graphs.
 use Rattle.std.proofs.Common.{◌≡◌, ℕ, zero, suc, ◌+◌, ◌*◌, ◌%◌, ◌<◌, ◌≤◌, List, [], ◌∷◌, ◌++◌, length, map, codes, refl, sym, ap, ◌∙◌, subst, arith}
-use Rattle.std.specs.Prelude.{All, decimal}
+use Rattle.std.specs.Prelude.{All, Option, decimal, slice_index_or}
 use Rattle.std.specs.List.{flat_map, range_with_len}
+use Rattle.std.specs.Option.{option_and_then, option_map_or}
 use Rattle.std.proofs.lemmas.Fmt.{length-decimal-le}
-use Rattle.std.proofs.lemmas.List.{append_assoc, length-append}
+use Rattle.std.proofs.lemmas.List.{length-append}
 use Rattle.std.proofs.Math.Nat.{mod-lt}
 use Rattle.std.proofs.lemmas.List.Elements.{All-cons, All-nil}
 use Rattle.command_line.specs.Requests.{once}
 use Rattle.nested_runs.specs.Rounds.{AreFirstRounds}
-use Rattle.run_frame.specs.NestedRule.{job_of}
-use Rattle.text_ops.specs.Lines.{IsNormal, line_end}
+use Rattle.run_frame.specs.declared.run.ValueRow.{ValueRow}
+use Rattle.run_frame.specs.LastEnds.{last_end}
+use Rattle.run_frame.specs.NestedRule.{job_of, journal_of}
+use Rattle.run_frame.specs.Runs.{value_at, values_of}
+use Rattle.text_ops.specs.Lines.{IsNormal, lines_of}
 use Rattle.text_ops.proofs.LineLemmas.{IsNormal-append, IsNormal-ended}
+use Rattle.text_tasks.specs.declared.item.Item.{Item}
 use Rattle.text_tasks.specs.declared.job.TextJob.{TextJob}
 use Rattle.text_tasks.specs.GraphWork.{IsWork, first_work, greatest_limit}
+use Rattle.text_tasks.specs.Items.{item_text}
 use Rattle.text_tasks.specs.JobMeaning.{net_of, text_job}
 use Rattle.text_tasks.specs.ValueTexts.{IsValueText}
 use Rattle.graph_plans.specs.PlanRows.{IsPlan, PlanRows}
@@ -20,22 +26,21 @@ use Rattle.graph_generator.specs.Draws.{draw}
 use Rattle.graph_generator.specs.GeneratedPlan.{generated_plan}
 use Rattle.graph_generator.specs.GeneratedText.{generated_text, text_line, text_lines}
 use Rattle.graph_generator.proofs.RuleLemmas.{rows-count}
-use Rattle.flow_run.specs.Generated.{IsGeneratedJob, generated_job}
+use Rattle.flow_run.specs.Generated.{IsGeneratedJob, generated_job, last_lines, summaries_text, summary_text}
 use Rattle.flow_run.specs.RoundTexts.{TextRun, round_rule}
 
 -- ---- the text
 
 line_ended : (n d : ℕ) → IsNormal (text_line n d)
-line_ended n d =
-    let front : List ℕ = codes "w" ++ decimal (d % 50) ++ codes " " ++ decimal n in
-    let same : front ++ line_end ∷ [] ≡ text_line n d = ap (λ xs. 119 ∷ xs) (append_assoc (decimal (d % 50)) (codes " " ++ decimal n) (line_end ∷ [])) in
-    subst IsNormal same (IsNormal-ended front)
+line_ended n d = IsNormal-ended (codes "w" ++ decimal (d % 50) ++ codes " " ++ decimal n)
 
 line_short : (n d : ℕ) → n < 1000 → length (text_line n d) ≤ 8
 line_short n d low =
-    let word : length (decimal (d % 50)) ≤ 2 = length-decimal-le 2 (d % 50) (omega arith) (omega (arith, mod-lt d {m = 50} (omega arith))) (omega (arith, mod-lt d {m = 50} (omega arith))) in
+    let less : d % 50 < 50 = mod-lt d {m = 50} (omega arith) in
+    let word : length (decimal (d % 50)) ≤ 2 = length-decimal-le 2 (d % 50) (omega arith) (omega (arith, less)) (omega (arith, less)) in
     let number : length (decimal n) ≤ 3 = length-decimal-le 3 n (omega arith) (omega (arith, low)) (omega (arith, low)) in
-    omega (arith, word, number, length-append (decimal (d % 50)) (codes " " ++ decimal n ++ codes "\n"), length-append (decimal n) (codes "\n"))
+    let front : List ℕ = codes "w" ++ decimal (d % 50) in
+    omega (arith, word, number, length-append (front ++ codes " " ++ decimal n) (codes "\n"), length-append (front ++ codes " ") (decimal n), length-append front (codes " "), length-append (codes "w") (decimal (d % 50)))
 
 abbrev lines_from : ℕ → ℕ → ℕ → List ℕ
 lines_from seed a n = flat_map (λ k. text_line k (draw seed k)) (range_with_len a n)
@@ -83,3 +88,18 @@ generated_work layers plan keeps same = record {
   in_plan = tt;
   starts = omega arith;
 }
+
+-- ---- the summary
+
+-- with how many lines a task ended, by the place of its last end
+pub lines_are : (run : TextRun) (t lines : ℕ) (end : Option ℕ) (values : List (ValueRow Item)) → end ≡ last_end (journal_of run) t → values ≡ values_of run
+    → lines ≡ option_map_or (λ (item : Item). length (lines_of (item_text item))) (option_and_then (value_at values) end) 0 → lines ≡ last_lines run t
+lines_are run t lines end values at are is =
+    is
+    ∙ ap (λ (rows : List (ValueRow Item)). option_map_or (λ (item : Item). length (lines_of (item_text item))) (option_and_then (value_at rows) end) 0) are
+    ∙ ap (λ e. option_map_or (λ (item : Item). length (lines_of (item_text item))) (option_and_then (value_at (values_of run)) e) 0) at
+
+-- what is written is the summary of the first run
+pub first_summary : (layers : ℕ) (runs : List TextRun) (run : TextRun) → 1 ≤ length runs → run ≡ slice_index_or runs 0 run → summaries_text layers runs ≡ summary_text layers run
+first_summary layers [] run some is = absurd (omega (arith, some))
+first_summary layers (first ∷ rest) run some is = ap (summary_text layers) (sym is)
