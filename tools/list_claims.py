@@ -24,9 +24,6 @@ UNCLAIMED = {
         "run_laws/specs/PlainLaws.antt: IsPlainRun RunsPlainly",
         "report_laws/specs/PlainReport.antt: HasSameReport ReportsAlike ReportsPlainly",
     ),
-    "cited only by such a law": (
-        "run_laws/specs/TextAnswers.antt: IsPlanned",
-    ),
     "cited only by the law that text jobs are plain": (
         "run_laws/specs/PlainJobs.antt: IsGraphJob IsInside IsPlainly",
     ),

@@ -26,3 +26,4 @@ pub mod ReadExamples
 pub mod PlainExamples
 pub mod RoundPlainExamples
 mod GeneratedLemmas
+pub mod GenerateExamples
