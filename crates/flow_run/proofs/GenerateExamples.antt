@@ -1,5 +1,5 @@
 -- Calls for generated graphs, on both sides of each line.
-use Rattle.std.proofs.Common.{◌≡◌, ℕ, List, [], ◌∷◌, None, Some, inl, inr, refl, codes}
+use Rattle.std.proofs.Common.{◌≡◌, List, [], ◌∷◌, Some, inl, inr, refl, codes}
 use Rattle.std.specs.Fmt.{digits}
 use Rattle.call_status.specs.declared.status.Status.TheVariants.{BadWords, NoMemory}
 use Rattle.command_line.specs.Requests.{generate as generate_asked}
@@ -7,7 +7,6 @@ use Rattle.nested_runs.specs.declared.reasons.Reason.{Reason}
 use Rattle.nested_runs.specs.declared.reasons.Reason.TheVariants.{Fine, Fault, Limit, Stuck}
 use Rattle.text_tasks.specs.JobMeaning.{limit_of}
 use Rattle.flow_run.specs.Answers.{GenerateEnds, IsAfterRun, runs_text}
-use Rattle.flow_run.specs.Completion.{IsAtHand}
 use Rattle.flow_run.specs.Generated.{done_task, generated_job, number_line, pipe_task, sum_task, summaries_text, summary_text}
 use Rattle.flow_run.specs.RoundTexts.{TextRun}
 
@@ -30,10 +29,6 @@ summary_of_a_run : (run : TextRun) → runs_text (Some (generate_asked 3 4)) (ru
 summary_of_a_run run = refl
 
 -- ---- how the call ends
-
--- A generated graph needs no source.
-always_at_hand : IsAtHand None (Some (generate_asked 1 4))
-always_at_hand = tt
 
 without_memory : GenerateEnds 1 NoMemory []
 without_memory = inl (refl, refl)

@@ -6,7 +6,7 @@ use Rattle.outside_io.specs.Sink.{SinkState}
 use Rattle.call_status.specs.declared.status.Status.TheVariants.{Done, BadWords, NoText, ReadFault, NoMemory}
 use Rattle.call_status.specs.declared.stop.Stop.{Stop}
 use Rattle.call_status.specs.declared.stop.Stop.TheVariants as stop
-use Rattle.command_line.specs.Requests.{Asked, once, run as run_of, judge as judge_of, check as check_of, upgrade as upgrade_of}
+use Rattle.command_line.specs.Requests.{once, run as run_of, profile as profile_of, judge as judge_of, check as check_of, upgrade as upgrade_of, generate as generate_of}
 use Rattle.flow_run.specs.Requests.{SourceTexts, CanBeRun}
 use Rattle.flow_run.specs.Judgements.{CanBeJudged}
 use Rattle.flow_run.specs.PlanFiles.{HoldsPlan}
@@ -103,8 +103,15 @@ module _ (text : List ℕ → Option (List ℕ)) where
   nothing_asked_for : ¬ IsAtHand (Some text) None
   nothing_asked_for hand = hand
 
-nothing_specified : (asked : Option Asked) → ¬ IsAtHand None asked
-nothing_specified asked hand = hand
+run_of_nothing_specified : (¬ IsAtHand None (Some (run_of t 77 4 once false))) × (¬ IsAtHand None (Some (profile_of t 77 4 once)))
+run_of_nothing_specified = (λ hand. hand, λ hand. hand)
+
+read_of_nothing_specified : (¬ IsAtHand None (Some (judge_of t u 9))) × (¬ IsAtHand None (Some (check_of t))) × (¬ IsAtHand None (Some (upgrade_of t)))
+read_of_nothing_specified = (λ hand. hand, λ hand. hand, λ hand. hand)
+
+-- A generated graph needs no source.
+nothing_needed : IsAtHand None (Some (generate_of 3 4))
+nothing_needed = tt
 
 -- ---- nothing fails
 
