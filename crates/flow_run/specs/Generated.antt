@@ -45,8 +45,8 @@ last_lines run t = option_map_or (λ (item : Item). length (lines_of (item_text 
 abbrev pub number_line : List ℕ → ℕ → List ℕ
 number_line words n = words ++ decimal n ++ codes "\n"
 
--- What is written of the run of so many layers: how many tasks it has, how many starts, and how many starts the runs inside it
--- have; and with how many lines the tally, the task behind the loop and the pipeline ended.
+-- What is written of the run of so many layers: how many tasks it has, how many starts, and how many starts the runs
+-- inside it have; and with how many lines the tally, the task behind the loop and the pipeline ended.
 abbrev pub summary_text : ℕ → TextRun → List ℕ
 summary_text layers run =
     number_line (codes "tasks ") (length (net_of (job_of run)).tasks)
