@@ -1,5 +1,9 @@
 // The generated graph of `flow generate N`, over oneTBB's flow graph with plain std::string operations: a peer to measure
 // beside. It prints the same six lines. Build: g++ -O2 -std=c++17 generate_tbb.cpp -ltbb. Use: generate_tbb N WORKERS
+//
+// It copies texts where the program shares them: what is read, what is cut, and the text of the loop. It keeps one value a
+// task, and neither a journal nor the values of the loop's earlier rounds; it has no limit of starts, and the order of
+// the tokens that wait is written in. It has one node more, which hands the text into the loop.
 #include <algorithm>
 #include <atomic>
 #include <cstdint>
@@ -27,43 +31,50 @@ static Lines lines_of(const std::string &text) {
     return lines;
 }
 
-template <class Each> static std::string joined(Each first, Each last) {
+static std::string joined(const Lines &lines) {
+    size_t length = lines.size();
+    for (auto line : lines) length += line.size();
     std::string text;
-    for (; first != last; ++first) text.append(*first).push_back('\n');
+    text.reserve(length);
+    for (auto line : lines) text.append(line).push_back('\n');
     return text;
 }
 
-static std::string head(const std::string &text, size_t n) {
-    Lines lines = lines_of(text);
-    return joined(lines.begin(), lines.begin() + std::min(n, lines.size()));
+// Where the first n lines end.
+static size_t end_of(const std::string &text, size_t n) {
+    size_t at = 0;
+    for (; n > 0 && at < text.size(); --n) at = text.find('\n', at) + 1;
+    return at;
 }
+
+static std::string head(const std::string &text, size_t n) { return text.substr(0, end_of(text, n)); }
+
+static std::string skip(const std::string &text, size_t n) { return text.substr(end_of(text, n)); }
 
 static std::string tail(const std::string &text, size_t n) {
-    Lines lines = lines_of(text);
-    return joined(lines.end() - std::min(n, lines.size()), lines.end());
+    size_t at = text.size();
+    for (; n > 0 && at > 0; --n) at = at < 2 ? 0 : text.rfind('\n', at - 2) + 1;
+    return text.substr(at);
 }
 
-static std::string skip(const std::string &text, size_t n) {
-    Lines lines = lines_of(text);
-    return joined(lines.begin() + std::min(n, lines.size()), lines.end());
-}
+static size_t count_lines(const std::string &text) { return std::count(text.begin(), text.end(), '\n'); }
 
 static std::string sort(const std::string &text) {
     Lines lines = lines_of(text);
     std::stable_sort(lines.begin(), lines.end());
-    return joined(lines.begin(), lines.end());
+    return joined(lines);
 }
 
 static std::string uniq(const std::string &text) {
     Lines lines = lines_of(text);
     lines.erase(std::unique(lines.begin(), lines.end()), lines.end());
-    return joined(lines.begin(), lines.end());
+    return joined(lines);
 }
 
 static std::string keep(const std::string &text, std::string_view word) {
     Lines lines = lines_of(text);
     lines.erase(std::remove_if(lines.begin(), lines.end(), [&](auto line) { return line.find(word) == line.npos; }), lines.end());
-    return joined(lines.begin(), lines.end());
+    return joined(lines);
 }
 
 static std::string tally(const std::string &text) {
@@ -89,7 +100,10 @@ struct Task {
             value = work(before[0]->value);
             return;
         }
+        size_t length = 0;
+        for (Task *task : before) length += task->value.size();
         std::string text;
+        text.reserve(length);
         for (Task *task : before) text += task->value;
         value = work(text);
     }
@@ -172,7 +186,7 @@ int main(int count, char **words) {
     tbb::flow::function_node<std::string> finish(graph, tbb::flow::serial, [&](const std::string &t) { ++starts; done = t; });
     tbb::flow::multifunction_node<std::string, std::tuple<std::string, std::string>> more(graph, tbb::flow::serial, [](const std::string &t, auto &ports) {
         ++starts;
-        if (lines_of(t).size() > 10) std::get<0>(ports).try_put(t);
+        if (count_lines(t) > 10) std::get<0>(ports).try_put(t);
         else std::get<1>(ports).try_put(t);
     });
     tbb::flow::function_node<std::string, std::string> body(graph, tbb::flow::serial, [](const std::string &t) { ++starts; return skip(t, 1); });
@@ -190,5 +204,5 @@ int main(int count, char **words) {
     parts->node->try_put(tbb::flow::continue_msg());
     graph.wait_for_all();
     std::printf("tasks %zu\nstarts %llu\ninner starts %llu\nsum lines %zu\ndone lines %zu\npipe lines %zu\n", 10 * layers + 7,
-        (unsigned long long)starts, (unsigned long long)inner_starts, lines_of(sum->value).size(), lines_of(done).size(), lines_of(pipe->value).size());
+        (unsigned long long)starts, (unsigned long long)inner_starts, count_lines(sum->value), count_lines(done), count_lines(pipe->value));
 }
