@@ -22,7 +22,7 @@ UNCLAIMED = {
         "flow_run/specs/Plainly.antt: IsReportedPlainly",
         "run_laws/specs/JudgeLaw.antt: IsJudgedComplete JudgesKept",
         "run_laws/specs/PlainLaws.antt: IsPlainRun RunsPlainly",
-        "report_laws/specs/PlainReport.antt: HasSameReport ReportsAlike ReportsPlainly",
+        "report_laws/specs/PlainReport.antt: HasSameReport ReportsPlainly",
     ),
     "cited only by the law that text jobs are plain": (
         "run_laws/specs/PlainJobs.antt: IsGraphJob IsInside IsPlainly",

@@ -58,7 +58,7 @@ use Rattle.report_laws.specs.Output.{report, task_report}
 use Rattle.run_laws.specs.PlainJobs.{IsGraphJob, IsInside, IsPlainly, LeadsTo, plain_value}
 use Rattle.run_laws.specs.PlainLaws.{IsPlainRun}
 use Rattle.run_laws.specs.TextAnswers.{IsPlanned, as_value, done_by, text_does}
-use Rattle.report_laws.specs.PlainReport.{HasSameReport, HasSoundPipes, IsPlainGraph, IsPlainJob, IsPlainTo, IsSoundGraph, NestsPlainly, OfModule, OpensNone, ReportsAlike, ReportsPlainly, RunsWell, UsesPlain, greatest_depth, known_value, plain_feedback, plain_next, plain_report, text_answer, text_plain}
+use Rattle.report_laws.specs.PlainReport.{HasSameReport, HasSoundPipes, IsPlainGraph, IsPlainJob, IsPlainTo, IsSoundGraph, NestsPlainly, OfModule, OpensNone, ReportsPlainly, RunsWell, UsesPlain, greatest_depth, known_value, plain_feedback, plain_next, plain_report, text_answer, text_plain}
 use Rattle.run_laws.proofs.Depth.{runs_plainly}
 use Rattle.run_laws.proofs.LastEnds.{flat_map_below}
 use Rattle.run_laws.proofs.TextAnswers.{fault_at_task, gather_long, gather_value, inner_at_task, item_meets, module_runs, parts_none, spread_runs, value_at_task}
@@ -396,11 +396,3 @@ same_report run plain is kept =
           flat_map_below _ _ 0 (length net.tasks) (λ t below. ap (task_report net t (slice_index_or names t [])) (plainly.values reason t (omega (arith, below)))) in
           ap (λ r. report names net (journal_of run) (values_of run) ++ reason_line (job_plan (job_of run)) r) reason ∙ append-nil _ ∙ values;
     }
-
--- so two runs of one job report the same
-pub reports_alike : (one other : FrameRun TextJob Item) → ReportsAlike one other
-reports_alike one other plain is kept also same fine =
-    let law : HasSameReport one = same_report one plain is kept in
-    let that : HasSameReport other = same_report other (subst IsPlainJob (sym same) plain) (subst IsPlanned (sym same) is) also in
-    let well : run_reason text_job other ≡ Fine = that.fine.1 (subst RunsWell (sym same) (law.fine.0 fine)) in
-    (well, that.report well ∙ ap plain_report same ∙ sym (law.report fine))

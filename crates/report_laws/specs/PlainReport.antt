@@ -135,9 +135,3 @@ pub record HasSameReport (run : FrameRun TextJob Item) : Type 0 where
 
 abbrev pub ReportsPlainly : FrameRun TextJob Item → Type 0
 ReportsPlainly run = IsPlainJob (job_of run) → IsPlanned (job_of run) → IsKept text_job run → HasSameReport run
-
--- Two runs of one job, by whatever workers: where the one is fine, so is the other, and both report the same.
-abbrev pub ReportsAlike : FrameRun TextJob Item → FrameRun TextJob Item → Type 0
-ReportsAlike one other =
-    IsPlainJob (job_of one) → IsPlanned (job_of one) → IsKept text_job one → IsKept text_job other → job_of other ≡ job_of one
-    → run_reason text_job one ≡ Fine → (run_reason text_job other ≡ Fine) × (report_of other ≡ report_of one)
