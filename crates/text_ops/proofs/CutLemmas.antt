@@ -7,8 +7,7 @@ use Rattle.std.proofs.lemmas.List.{take-append-drop, take_all, drop_all, take_at
 use Rattle.std.proofs.lemmas.List.Sums.{sum_by-append}
 use Rattle.std.proofs.lemmas.Slice.{between_to_end}
 use Rattle.std.proofs.lemmas.List.Edits.{length-between, get_or-between}
-use Rattle.memchr.specs.Find.{IsFirstByte, IsLastByte, is_byte, places}
-use Rattle.memchr.proofs.lemmas.CallerLemmas.{length-places}
+use Rattle.memchr.specs.Find.{IsFirstByte, IsLastByte, is_byte}
 use Rattle.text_ops.specs.Lines.{line_end, lines_of, text_of, ended, IsNormal, IsPlain}
 use Rattle.text_ops.specs.inside.Cuts.{IsCut, end_count, LeftBehind, LeftBefore}
 use Rattle.text_ops.proofs.LineLemmas.{lines_of-append, lines_of-ended, text_of-lines_of, normal_same, count_by-lines_of, IsNormal-ended, IsNormal-drop}
@@ -95,10 +94,10 @@ LeftBehind-none text n at left is so_far none =
     IsCut-all text n is (omega (arith, ap end_count whole, so_far.ends))
 
 -- a block further on
-pub LeftBehind-block : (text : List ℕ) (n at left more ends : ℕ) → LeftBehind text n at left → at + more ≤ length text → ends ≡ length (places (is_byte line_end) (between at (at + more) text)) → ends < left → LeftBehind text n (at + more) (left - ends)
+pub LeftBehind-block : (text : List ℕ) (n at left more ends : ℕ) → LeftBehind text n at left → at + more ≤ length text → ends ≡ end_count (between at (at + more) text) → ends < left → LeftBehind text n (at + more) (left - ends)
 LeftBehind-block text n at left more ends so_far within counted few =
     let long : at + more - at ≡ more = omega arith in
-    let block = counted ∙ length-places (is_byte line_end) (between at (at + more) text) ∙ ap (λ k. end_count (take k (drop at text))) long in
+    let block = counted ∙ ap (λ k. end_count (take k (drop at text))) long in
     record {
       within = within;
       some = omega arith;
@@ -116,11 +115,11 @@ end_count-plain line plain =
     omega (arith, one, end_count-append line (line_end ∷ []))
 
 -- a block from the end back
-pub LeftBefore-block : (text : List ℕ) (n end left more ends : ℕ) → LeftBefore text n end left → more ≤ end → ends ≡ length (places (is_byte line_end) (between (end - more) end text)) → ends < left → LeftBefore text n (end - more) (left - ends)
+pub LeftBefore-block : (text : List ℕ) (n end left more ends : ℕ) → LeftBefore text n end left → more ≤ end → ends ≡ end_count (between (end - more) end text) → ends < left → LeftBefore text n (end - more) (left - ends)
 LeftBefore-block text n end left more ends so_far within counted few =
     let at : end - more + more ≡ end = omega arith in
     let long : end - (end - more) ≡ more = omega arith in
-    let block = counted ∙ length-places (is_byte line_end) (between (end - more) end text) ∙ ap (λ k. end_count (take k (drop (end - more) text))) long in
+    let block = counted ∙ ap (λ k. end_count (take k (drop (end - more) text))) long in
     let whole = end_count-further text (end - more) more in
     let here = ap (λ k. end_count (take k text)) at in
     record {

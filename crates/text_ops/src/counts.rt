@@ -5,9 +5,9 @@ ghost use Rattle.text_ops.specs.TextMeaning.{count_meaning};
 ghost use Rattle.text_ops.specs.Values.{Makes};
 
 use crate::gathered::ApplyError;
+use crate::line_ends::line_ends;
 use crate::text::Text;
 use itoa::write_digits;
-use memchr::memchr_iter;
 use outside_io::List;
 use std::alloc::Global;
 
@@ -15,7 +15,7 @@ use std::alloc::Global;
 pub fn line_count(text: &Text) -> u64
     ensures { result ≡ length (lines_of text.now) }
 {
-    memchr_iter(b'\n', text.as_slice()).count() as u64
+    line_ends(text.as_slice()) as u64
 }
 
 /// One line, the number of lines of the text in decimal.

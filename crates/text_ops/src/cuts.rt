@@ -6,21 +6,19 @@ ghost use Rattle.text_ops.specs.Values.{Makes};
 ghost use Rattle.text_ops.specs.inside.Cuts.{IsCut, LeftBehind, LeftBefore};
 
 use crate::gathered::ApplyError;
+use crate::line_ends::{BLOCK, block_line_ends};
 use crate::part::part;
 use crate::text::Text;
-use memchr::{memchr, memchr_iter, memrchr};
+use memchr::{memchr, memrchr};
 
-// Line ends are counted in blocks of so many bytes, which is faster than to go from one to the next.
-const BLOCK: usize = 4096;
-
-// Of no more line ends than these none are counted in blocks: a short part of a text isn't worth a block.
-const FEW: u64 = 64;
+// More line ends than these are counted in blocks, which is faster than to go from one to the next.
+const FEW: u64 = 8;
 
 /// The first `n` lines, or all where there are fewer.
 pub fn head(text: &Text, n: u64) -> Result<Text, ApplyError>
     ensures { Makes (head_meaning n text.now) result }
 {
-    let end = first_lines(text.as_slice(), n);
+    let end = end_of_first(text.as_slice(), n);
     part(text, 0, end)
 }
 
@@ -29,7 +27,7 @@ pub fn skip(text: &Text, n: u64) -> Result<Text, ApplyError>
     ensures { Makes (skip_meaning n text.now) result }
 {
     let bytes = text.as_slice();
-    let start = first_lines(bytes, n);
+    let start = end_of_first(bytes, n);
     part(text, start, bytes.len())
 }
 
@@ -38,12 +36,12 @@ pub fn tail(text: &Text, n: u64) -> Result<Text, ApplyError>
     ensures { Makes (tail_meaning n text.now) result }
 {
     let bytes = text.as_slice();
-    let start = last_lines(bytes, n);
+    let start = start_of_last(bytes, n);
     part(text, start, bytes.len())
 }
 
 // Where the first lines end.
-pub(crate) fn first_lines(text: &[u8], n: u64) -> usize
+pub(crate) fn end_of_first(text: &[u8], n: u64) -> usize
     requires { IsNormal text.now }
     ensures { IsCut text.now n result }
 {
@@ -62,7 +60,7 @@ pub(crate) fn first_lines(text: &[u8], n: u64) -> usize
 }
 
 // Where the last lines begin.
-fn last_lines(text: &[u8], n: u64) -> usize
+fn start_of_last(text: &[u8], n: u64) -> usize
     requires { IsNormal text.now }
     ensures { IsCut text.now (length (lines_of text.now) - n) result }
 {
@@ -88,7 +86,7 @@ fn blocks_before(text: &[u8], n: u64) -> (usize, u64)
     let mut at = 0;
     let mut left = n;
     while left > FEW && text.len() - at > BLOCK {
-        let ends = memchr_iter(b'\n', &text[at..at + BLOCK]).count() as u64;
+        let ends = u64::from(block_line_ends(&text[at..at + BLOCK]));
         if ends >= left {
             break;
         }
@@ -106,7 +104,7 @@ fn blocks_behind(text: &[u8], n: u64) -> (usize, u64)
     let mut end = text.len();
     let mut left = n;
     while left > FEW && end > BLOCK {
-        let ends = memchr_iter(b'\n', &text[end - BLOCK..end]).count() as u64;
+        let ends = u64::from(block_line_ends(&text[end - BLOCK..end]));
         if ends >= left {
             break;
         }

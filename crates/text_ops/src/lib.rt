@@ -16,6 +16,7 @@ mod gathered;
 mod joined;
 mod kept_lines;
 mod laws;
+mod line_ends;
 mod line_runs;
 mod line_walk;
 mod matches;

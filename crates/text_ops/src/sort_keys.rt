@@ -6,9 +6,10 @@ ghost use Rattle.text_ops.specs.Lines.{IsNormal, lines_of};
 ghost use Rattle.text_ops.specs.MatchKeys.{match_key};
 ghost use Rattle.text_ops.specs.inside.SortKeys.{AreSortedKeys, behind_leads_cmp, lead_of, sort_key_cmp, keyed_piece, keyed_with_end, sort_keys_of, piece_of, tie_of};
 
+use crate::line_ends::line_ends;
 use crate::line_walk::Lines;
 use crate::sort_key::{Offset, Piece, SortKey};
-use memchr::{memchr, memchr_iter};
+use memchr::memchr;
 use outside_io::NoMemory;
 use std::alloc::Global;
 use std::cmp::Ordering;
@@ -51,6 +52,18 @@ pub(crate) fn keyed_with_end<'t, O: Offset>(text: &'t [u8], sort_key: &SortKey<O
 
 // The first eight bytes as a number.
 pub(crate) fn lead(bytes: &[u8]) -> u64
+    ensures { result ≡ lead_of bytes.now }
+{
+    if bytes.len() < 8 {
+        return short_lead(bytes);
+    }
+    u64::from_be_bytes([
+        bytes[0], bytes[1], bytes[2], bytes[3], bytes[4], bytes[5], bytes[6], bytes[7],
+    ])
+}
+
+// The same of fewer bytes, with 0 for those that there aren't.
+fn short_lead(bytes: &[u8]) -> u64
     ensures { result ≡ lead_of bytes.now }
 {
     u64::from_be_bytes([
@@ -105,7 +118,7 @@ fn sort_keys_of<O: Offset>(
     requires short { length text.now ≤ O.most }
     ensures { IfOk result (λ sort_keys. sort_keys.items ≡ sort_keys_of by 0 (lines_of text.now)) }
 {
-    let count = memchr_iter(b'\n', text).count();
+    let count = line_ends(text);
     let mut sort_keys = Vec::with_capacity(alloc, count)?;
     let mut start = 0;
     for line in Lines::new(text) {

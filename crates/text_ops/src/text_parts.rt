@@ -3,7 +3,7 @@ ghost use Rattle.std.specs.Prelude.{◌≡◌, ◌≤◌, IfOk};
 ghost use Rattle.text_ops.specs.LineParts.{line_parts, part_count};
 
 use crate::counts::line_count;
-use crate::cuts::first_lines;
+use crate::cuts::end_of_first;
 use crate::text::Text;
 use outside_io::{List, NoMemory};
 use std::alloc::Global;
@@ -27,7 +27,7 @@ pub fn line_parts(alloc: Global, text: &Text, n: u64) -> Result<List<Text>, NoMe
     let mut parts = List::with_room(alloc, count as usize)?;
     let mut place = 0;
     for _part in 0..count {
-        let end = place + first_lines(&bytes[place..], n);
+        let end = place + end_of_first(&bytes[place..], n);
         parts.push(text.cut(place, end)?)?;
         place = end;
     }

@@ -6,4 +6,4 @@ use Rattle.text_ops.proofs.cuts.head.Goals as goal
 pub returns : goal.returns
 returns c =
     subst (λ value. Makes value c.part.result)
-    (part_before c.args.text.now c.as_slice.result.now c.args.n c.first_lines-end.result c.as_slice.ensures.value c.first_lines-end.ensures) c.part.ensures
+    (part_before c.args.text.now c.as_slice.result.now c.args.n c.end_of_first-end.result c.as_slice.ensures.value c.end_of_first-end.ensures) c.part.ensures

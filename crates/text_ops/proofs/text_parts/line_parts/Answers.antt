@@ -8,8 +8,8 @@ use Rattle.text_ops.proofs.CutLemmas.{IsNormal-behind}
 use Rattle.text_ops.proofs.PartLemmas.{PartsSoFar-next}
 use Rattle.text_ops.proofs.text_parts.line_parts.Goals as goal
 
-pub first_lines-requires : goal.first_lines-requires
-first_lines-requires c =
+pub end_of_first-requires : goal.end_of_first-requires
+end_of_first-requires c =
     let bytes : List ℕ = c.as_slice-bytes.result.now in
     IsNormal-behind bytes bytes c.loop-part.place refl (subst IsNormal (sym c.as_slice-bytes.ensures.value) c.as_slice-bytes.ensures.normal)
 
@@ -17,12 +17,12 @@ pub loop-part-preserved : goal.loop-part-preserved
 loop-part-preserved c =
     let text : List ℕ = c.args.text.now in
     let place : ℕ = c.loop-part.place in
-    let gap : ℕ = c.first_lines.result in
+    let gap : ℕ = c.end_of_first.result in
     let parts : List (List ℕ) = c.loop-part.parts in
     let bytes : List ℕ = c.as_slice-bytes.result.now in
     let rest : between place (length bytes) bytes ≡ drop place text =
     between_to_end bytes place (length bytes) (omega arith) ∙ ap (drop place) c.as_slice-bytes.ensures.value in
-    let cut : IsCut (drop place text) c.args.n gap = subst (λ l. IsCut l c.args.n gap) rest c.first_lines.ensures in
+    let cut : IsCut (drop place text) c.args.n gap = subst (λ l. IsCut l c.args.n gap) rest c.end_of_first.ensures in
     let made : c.push.new.self ≡ parts ++ between place (place + gap) text ∷ [] =
     c.in_ok-push.ensures.ok ∙ ap (λ part. parts ++ part ∷ []) c.in_ok-cut.ensures in
     subst (λ l. PartsSoFar c.args.n text l (c.loop-part._part + 1) (place + gap)) (sym made)

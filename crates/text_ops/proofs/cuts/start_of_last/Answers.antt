@@ -1,7 +1,7 @@
 use Rattle.std.proofs.Common.{◌+◌, arith, refl}
 use Rattle.text_ops.proofs.CountLemmas.{length-lines_of-le}
 use Rattle.text_ops.proofs.CutLemmas.{IsCut-none, IsCut-first, IsCut-last, LeftBefore-next}
-use Rattle.text_ops.proofs.cuts.last_lines.Goals as goal
+use Rattle.text_ops.proofs.cuts.start_of_last.Goals as goal
 
 pub returns-then-n-text : goal.returns-then-n-text
 returns-then-n-text c = IsCut-none c.args.text.now _ (omega (arith, length-lines_of-le c.args.text.now c.requires))

@@ -1,6 +1,6 @@
 use Rattle.std.proofs.Common.{◌+◌, arith}
 use Rattle.text_ops.proofs.CutLemmas.{IsCut-counted, IsCut-none, LeftBehind-none, next_within, next_counted, next_whole}
-use Rattle.text_ops.proofs.cuts.first_lines.Goals as goal
+use Rattle.text_ops.proofs.cuts.end_of_first.Goals as goal
 
 pub returns-then-n-eq0 : goal.returns-then-n-eq0
 returns-then-n-eq0 c = IsCut-none c.args.text.now c.args.n (omega arith)
