@@ -20,7 +20,7 @@ use Rattle.text_tasks.specs.declared.job.TextJob.{TextJob}
 use Rattle.text_tasks.specs.Items.{item_text}
 use Rattle.text_tasks.specs.JobMeaning.{limit_of, net_of, text_job}
 use Rattle.flow_run.specs.Answers.{GenerateEnds, IsAfterRun, runs_text}
-use Rattle.flow_run.specs.Generated.{done_task, generated_job, last_lines, number_line, pipe_task, sum_task, summaries_text, summary_text}
+use Rattle.flow_run.specs.Generated.{done_task, generated_job, lines_of_last, number_line, pipe_task, sum_task, summaries_text, summary_text}
 use Rattle.flow_run.specs.RoundTexts.{TextRun, round_rule}
 
 -- ---- what is run and written
@@ -42,14 +42,14 @@ summary_is_written : (run : TextRun) → runs_text (Some (generate_asked 3 4)) (
 summary_is_written run = refl
 
 module _ (run : TextRun) where
-  lines_of_a_value : last_value (journal_of run) (values_of run) 3 ≡ Some (Text (codes "a\nb\n")) → last_lines run 3 ≡ 2
+  lines_of_a_value : last_value (journal_of run) (values_of run) 3 ≡ Some (Text (codes "a\nb\n")) → lines_of_last run 3 ≡ 2
   lines_of_a_value is = ap (λ value. option_map_or (λ (item : Item). length (lines_of (item_text item))) value 0) is
 
-  lines_of_no_value : last_value (journal_of run) (values_of run) 3 ≡ None → last_lines run 3 ≡ 0
+  lines_of_no_value : last_value (journal_of run) (values_of run) 3 ≡ None → lines_of_last run 3 ≡ 0
   lines_of_no_value is = ap (λ value. option_map_or (λ (item : Item). length (lines_of (item_text item))) value 0) is
 
   -- Each number stands in its line.
-  lines_of_a_summary : length (net_of (job_of run)).tasks ≡ 17 → starts (journal_of run) ≡ 395 → starts_inside run ≡ 601 → last_lines run 10 ≡ 200 → last_lines run 14 ≡ 7 → last_lines run 16 ≡ 150
+  lines_of_a_summary : length (net_of (job_of run)).tasks ≡ 17 → starts (journal_of run) ≡ 395 → starts_inside run ≡ 601 → lines_of_last run 10 ≡ 200 → lines_of_last run 14 ≡ 7 → lines_of_last run 16 ≡ 150
       → summary_text 1 run ≡ codes "tasks 17\nstarts 395\ninner starts 601\nsum lines 200\ndone lines 7\npipe lines 150\n"
   unfolding digits
   lines_of_a_summary tasks first inside sum done pipe = rw (tasks, first, inside, sum, done, pipe) refl

@@ -26,7 +26,7 @@ use Rattle.graph_generator.specs.Draws.{draw}
 use Rattle.graph_generator.specs.GeneratedPlan.{generated_plan}
 use Rattle.graph_generator.specs.GeneratedText.{generated_text, text_line, text_lines}
 use Rattle.graph_generator.proofs.RuleLemmas.{rows-count}
-use Rattle.flow_run.specs.Generated.{IsGeneratedJob, generated_job, last_lines, summaries_text, summary_text}
+use Rattle.flow_run.specs.Generated.{IsGeneratedJob, generated_job, lines_of_last, summaries_text, summary_text}
 use Rattle.flow_run.specs.RoundTexts.{TextRun, round_rule}
 
 -- ---- the text
@@ -93,7 +93,7 @@ generated_work layers plan keeps same = record {
 
 -- with how many lines a task ended, by the place of its last end
 pub lines_are : (run : TextRun) (t lines : ℕ) (end : Option ℕ) (values : List (ValueRow Item)) → end ≡ last_end (journal_of run) t → values ≡ values_of run
-    → lines ≡ option_map_or (λ (item : Item). length (lines_of (item_text item))) (option_and_then (value_at values) end) 0 → lines ≡ last_lines run t
+    → lines ≡ option_map_or (λ (item : Item). length (lines_of (item_text item))) (option_and_then (value_at values) end) 0 → lines ≡ lines_of_last run t
 lines_are run t lines end values at are is =
     is
     ∙ ap (λ (rows : List (ValueRow Item)). option_map_or (λ (item : Item). length (lines_of (item_text item))) (option_and_then (value_at rows) end) 0) are

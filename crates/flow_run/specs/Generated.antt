@@ -38,8 +38,8 @@ abbrev pub pipe_task : ℕ → ℕ
 pipe_task layers = 10 * layers + 6
 
 -- how many lines the text has with which a task ended last; none where it hasn't ended
-abbrev pub last_lines : TextRun → ℕ → ℕ
-last_lines run t = option_map_or (λ (item : Item). length (lines_of (item_text item))) (last_value (journal_of run) (values_of run) t) 0
+abbrev pub lines_of_last : TextRun → ℕ → ℕ
+lines_of_last run t = option_map_or (λ (item : Item). length (lines_of (item_text item))) (last_value (journal_of run) (values_of run) t) 0
 
 -- a line of some words and a number
 abbrev pub number_line : List ℕ → ℕ → List ℕ
@@ -52,9 +52,9 @@ summary_text layers run =
     number_line (codes "tasks ") (length (net_of (job_of run)).tasks)
     ++ number_line (codes "starts ") (starts (journal_of run))
     ++ number_line (codes "inner starts ") (min (starts_inside run) 18446744073709551615)
-    ++ number_line (codes "sum lines ") (last_lines run (sum_task layers))
-    ++ number_line (codes "done lines ") (last_lines run (done_task layers))
-    ++ number_line (codes "pipe lines ") (last_lines run (pipe_task layers))
+    ++ number_line (codes "sum lines ") (lines_of_last run (sum_task layers))
+    ++ number_line (codes "done lines ") (lines_of_last run (done_task layers))
+    ++ number_line (codes "pipe lines ") (lines_of_last run (pipe_task layers))
 
 -- what is written of the run, if there is one
 abbrev pub summaries_text : ℕ → List TextRun → List ℕ

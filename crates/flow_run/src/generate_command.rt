@@ -164,25 +164,25 @@ fn summary_of(alloc: Global, layers: u64, run: &FrameRun<TextJob>) -> Result<Byt
     let values = run.values.as_slice();
     let sum = LAYER_WIDTH * layers as u32;
     let mut summary = List::new(alloc);
-    add_line(&mut summary, b"tasks ", tasks as u64)?;
-    add_line(&mut summary, b"starts ", starts(run))?;
-    add_line(&mut summary, b"inner starts ", inner_starts(run))?;
-    add_line(&mut summary, b"sum lines ", last_lines(&ends, values, sum))?;
-    add_line(
+    add_number_line(&mut summary, b"tasks ", tasks as u64)?;
+    add_number_line(&mut summary, b"starts ", starts(run))?;
+    add_number_line(&mut summary, b"inner starts ", inner_starts(run))?;
+    add_number_line(&mut summary, b"sum lines ", lines_of_last(&ends, values, sum))?;
+    add_number_line(
         &mut summary,
         b"done lines ",
-        last_lines(&ends, values, sum + DONE),
+        lines_of_last(&ends, values, sum + DONE),
     )?;
-    add_line(
+    add_number_line(
         &mut summary,
         b"pipe lines ",
-        last_lines(&ends, values, sum + PIPELINE),
+        lines_of_last(&ends, values, sum + PIPELINE),
     )?;
     Ok(summary)
 }
 
 // Adds a line of these words and a number.
-fn add_line(summary: &mut Bytes, words: &[u8], number: u64) -> Result<(), NoMemory>
+fn add_number_line(summary: &mut Bytes, words: &[u8], number: u64) -> Result<(), NoMemory>
     ensures { OnOk result (summary.new ≡ summary.old ++ number_line words.now number) }
 {
     add_numbered(summary, words, number)?;
@@ -191,7 +191,7 @@ fn add_line(summary: &mut Bytes, words: &[u8], number: u64) -> Result<(), NoMemo
 }
 
 // How many lines the text has with which a task ended last.
-fn last_lines(ends: &[Option<u64>], values: &[ValueRow<Item>], task: u32) -> u64
+fn lines_of_last(ends: &[Option<u64>], values: &[ValueRow<Item>], task: u32) -> u64
     requires task { task < length ends.now }
     requires rising { AreRising values.now }
     ensures { result ≡ option_map_or (λ (item : Item). length (lines_of (item_text item)))
