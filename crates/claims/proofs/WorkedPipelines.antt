@@ -8,6 +8,7 @@ use Rattle.pipe_lines.specs.declared.deferral.DeferRow.{DeferRow}
 use Rattle.pipe_lines.specs.DeferRows.{IsDeferRow}
 use Rattle.pipe_lines.specs.declared.pipeline.PipeError.TheVariants.{NoLines, NoPipes, FirstParallel, TooManyLines, TooManyPipes}
 use Rattle.pipe_lines.specs.declared.pipeline.PipeSpec.{PipeSpec}
+use Rattle.pipe_lines.specs.Pipelines.{spec_fault}
 use Rattle.graph_plans.specs.declared.ops.Op.TheVariants.{Match, Module as Runs, Pipe}
 use Rattle.graph_plans.specs.declared.ops.TextOp.TheVariants.{Pass, Keep, Head, Sort}
 use Rattle.graph_plans.specs.declared.pipes.LineOp.TheVariants.{Text as LineText, Number, Stamp}
@@ -20,7 +21,7 @@ use Rattle.graph_file.specs.declared.refusals.GraphError.TheVariants.{BadField, 
 use Rattle.graph_file.specs.declared.scopes.Scope.TheVariants.{Top, Module as OfModule}
 use Rattle.graph_file.specs.Contents.{defer_objects_of, pipe_lines_of, targets_of, token_number_of}
 use Rattle.graph_file.specs.OpRows.{FileOpRow, PipeRows, add_defer, add_pipe, defers_in, does, line_rows, may_have, op_in, op_rows, pipe_in, pipes_in, reads, runs, text_rows}
-use Rattle.graph_file.specs.PlanText.{DraftRows, TaskText, add_pipeline, empty_draft, file_op_fault, file_pipelines, graph_pipelines, pipe_fault, plan_of, spec_fault}
+use Rattle.graph_file.specs.PlanText.{DraftRows, TaskText, add_pipeline, empty_draft, file_op_fault, file_pipelines, graph_pipelines, pipe_fault, plan_of}
 use Rattle.graph_writer.specs.WrittenPlan.{defer_data, op_text, pipe_data}
 
 abbrev whole : ℕ → Data

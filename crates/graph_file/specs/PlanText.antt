@@ -14,9 +14,7 @@ use Rattle.graph_plans.specs.Operations.{shape_of}
 use Rattle.graph_plans.specs.ModuleUses.{first_on_cycle, has_chain}
 use Rattle.graph_plans.specs.PlanRows.{GraphRows, PlanRows, depth_limit, file_edge_limit, file_semaphore_limit, file_task_limit, maximum_limit, module_limit, text_count_limit}
 use Rattle.pipe_lines.specs.declared.pipeline.PipeError.{PipeError}
-use Rattle.pipe_lines.specs.declared.pipeline.PipeError.TheVariants.{NoLines, NoPipes, FirstParallel, TooManyLines, TooManyPipes}
-use Rattle.pipe_lines.specs.declared.pipeline.PipeSpec.{PipeSpec}
-use Rattle.pipe_lines.specs.Pipelines.{line_limit, pipe_limit}
+use Rattle.pipe_lines.specs.Pipelines.{spec_fault}
 use Rattle.graph_file.specs.declared.numbers.TaskNumbers.{TaskNumbers}
 use Rattle.graph_file.specs.declared.refusals.GraphError.{GraphError}
 use Rattle.graph_file.specs.declared.refusals.GraphError.TheVariants.{NotJson, NoSuchName, Repeated, ModuleCycle, TooMany, BadPipe}
@@ -304,20 +302,7 @@ within_limits file numbers = do
 
 -- ---- pipelines
 
--- why pipes of which the first is serial or not are none of a pipeline with so many lines, if they are none
-abbrev pub limit_fault : Bool → ℕ → ℕ → Option PipeError
-limit_fault false lines pipes = Some FirstParallel
-limit_fault true lines pipes = if nat_le lines line_limit then (if nat_le pipes pipe_limit then None else Some TooManyPipes) else Some TooManyLines
-
-abbrev pub pipes_fault : ℕ → List Bool → Option PipeError
-pipes_fault lines [] = Some NoPipes
-pipes_fault lines (first ∷ rest) = limit_fault first lines (suc (length rest))
-
--- why a specification is none of a pipeline, if it is none: the first reason
-abbrev pub spec_fault : PipeSpec → Option PipeError
-spec_fault spec = if spec.lines == 0 then Some NoLines else pipes_fault spec.lines spec.serial
-
--- the same of the pipes of an operation, if it has some
+-- why the pipes of an operation, if it has some, are no pipeline: the first reason
 abbrev pub pipe_fault : Op → Option PipeError
 pipe_fault Input = None
 pipe_fault (Read text) = None

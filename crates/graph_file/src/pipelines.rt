@@ -1,7 +1,7 @@
 // Whether the pipes of tasks are pipelines.
 ghost use Rattle.std.specs.Prelude.{◌≡◌, map};
 ghost use Rattle.graph_file.specs.Steps.{walk};
-ghost use Rattle.graph_file.specs.PlanText.{add_graph_pipelines, file_op_fault, file_pipelines, pipe_fault, spec_fault};
+ghost use Rattle.graph_file.specs.PlanText.{add_graph_pipelines, file_op_fault, file_pipelines, pipe_fault};
 ghost use Rattle.graph_file.specs.inside.Reader.{Reads, draft_rows, file_op_row, file_rows};
 
 use crate::draft::{Draft, FileDraft};
@@ -9,7 +9,7 @@ use crate::file_op::FileOp;
 use crate::refusals::GraphError;
 use crate::scopes::task_spot;
 use graph_plans::Op;
-use pipe_lines::{MAX_LINES, MAX_PIPES, PipeError, PipeSpec};
+use pipe_lines::{PipeError, spec_fault};
 
 /// That the pipes of each task of a file are a pipeline.
 pub(crate) fn check_pipelines(file: &FileDraft<'_>) -> Result<(), GraphError>
@@ -57,26 +57,4 @@ fn pipe_fault(op: &Op) -> Option<PipeError>
         Op::Pipe(plan) => spec_fault(&plan.spec),
         _ => None,
     }
-}
-
-fn spec_fault(spec: &PipeSpec) -> Option<PipeError>
-    ensures { result ≡ spec_fault spec.now }
-{
-    let serial = spec.serial.as_slice();
-    if spec.lines == 0 {
-        return Some(PipeError::NoLines);
-    }
-    if serial.is_empty() {
-        return Some(PipeError::NoPipes);
-    }
-    if !serial[0] {
-        return Some(PipeError::FirstParallel);
-    }
-    if spec.lines > MAX_LINES {
-        return Some(PipeError::TooManyLines);
-    }
-    if serial.len() > MAX_PIPES {
-        return Some(PipeError::TooManyPipes);
-    }
-    None
 }

@@ -1,4 +1,5 @@
 pub mod DeferLemmas
+pub mod FaultLemmas
 pub mod FindLemmas
 pub mod NetLemmas
 pub mod OrderLemmas

@@ -1,5 +1,5 @@
 -- What a pipeline is, and why a specification is refused as none.
-use Rattle.std.specs.Prelude.{◌≡◌, ℕ, ◌<◌, ◌≤◌, true, false, [], length, slice_get, Some}
+use Rattle.std.specs.Prelude.{◌≡◌, ◌==◌, ℕ, suc, ◌<◌, ◌≤◌, nat_le, Bool, true, false, List, [], ◌∷◌, length, slice_get, Option, Some, None, if◌then◌else◌}
 use Rattle.task_graph.specs.NetRows.{NetRows}
 use Rattle.pipe_lines.specs.declared.pipeline.PipeSpec.{PipeSpec}
 use Rattle.pipe_lines.specs.declared.pipeline.PipeError.{PipeError}
@@ -34,3 +34,16 @@ RefusesPipes spec FirstParallel = (1 ≤ spec.lines) × (slice_get spec.serial 0
 RefusesPipes spec TooManyLines = (slice_get spec.serial 0 ≡ Some true) × (line_limit < spec.lines)
 RefusesPipes spec TooManyPipes = (1 ≤ spec.lines) × (slice_get spec.serial 0 ≡ Some true) × (spec.lines ≤ line_limit) × (pipe_limit < length spec.serial)
 RefusesPipes spec NoMemory = IsPipeline spec
+
+-- why pipes of which the first is serial or not are none of a pipeline with so many lines, if they are none
+abbrev pub limit_fault : Bool → ℕ → ℕ → Option PipeError
+limit_fault false lines pipes = Some FirstParallel
+limit_fault true lines pipes = if nat_le lines line_limit then (if nat_le pipes pipe_limit then None else Some TooManyPipes) else Some TooManyLines
+
+abbrev pub pipes_fault : ℕ → List Bool → Option PipeError
+pipes_fault lines [] = Some NoPipes
+pipes_fault lines (first ∷ rest) = limit_fault first lines (suc (length rest))
+
+-- why a specification is none of a pipeline, if it is none: the first reason
+abbrev pub spec_fault : PipeSpec → Option PipeError
+spec_fault spec = if spec.lines == 0 then Some NoLines else pipes_fault spec.lines spec.serial

@@ -23,5 +23,5 @@ pub use gate::Gate;
 pub use laws::{all_tokens_pass, tokens_pass_in_turn, tokens_pass_once};
 pub use net::pipe_net;
 pub use order::{Order, Passed, pass_order};
-pub use pipeline::{MAX_LINES, MAX_PIPES, PipeError, PipeSpec};
+pub use pipeline::{MAX_LINES, MAX_PIPES, PipeError, PipeSpec, spec_fault};
 pub use tags::along_pipes;

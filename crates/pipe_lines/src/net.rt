@@ -5,7 +5,7 @@ ghost use Rattle.pipe_lines.specs.PipeNet.{cell, cell_edges, cell_row, edges_fro
 ghost use Rattle.pipe_lines.specs.Pipelines.{IsPipeNet, RefusesPipes, line_limit, pipe_limit};
 ghost use Rattle.pipe_lines.specs.inside.Building.{cells_net, with_edges};
 
-use crate::pipeline::{PipeError, PipeSpec, check_spec};
+use crate::pipeline::{PipeError, PipeSpec, spec_fault};
 use outside_io::{List, NoMemory};
 use std::alloc::Global;
 use task_graph::{Net, NetBuilder, Shape};
@@ -15,11 +15,14 @@ use task_graph::{Net, NetBuilder, Shape};
 ///
 /// An edge into the first pipe begins with a token, and so does the edge of a serial pipe into the first line. So of each
 /// line, and of each serial pipe, one cell at most works at a time.
+#[tactic(auto, using(crate::proofs::FaultLemmas::spec_sound, crate::proofs::FaultLemmas::spec_refused))]
 pub fn pipe_net(alloc: Global, spec: &PipeSpec) -> Result<Net, PipeError>
     ensures net { IfOk result (IsPipeNet spec.now) }
     ensures err { IfErr result (RefusesPipes spec.now) }
 {
-    check_spec(spec)?;
+    if let Some(error) = spec_fault(spec) {
+        return Err(error);
+    }
     Ok(net_of(alloc, spec.lines, spec.serial.as_slice())?)
 }
 

@@ -1,6 +1,6 @@
 // What a pipeline is, and why a specification is none.
-ghost use Rattle.std.specs.Prelude.{◌≡◌, OnOk, IfErr};
-ghost use Rattle.pipe_lines.specs.Pipelines.{IsPipeline, RefusesPipes};
+ghost use Rattle.std.specs.Prelude.{◌≡◌};
+ghost use Rattle.pipe_lines.specs.Pipelines.{spec_fault};
 ghost use Rattle.pipe_lines.specs.declared.pipeline.PipeError.TheVariants.{NoMemory as OutOfMemory};
 
 use outside_io::{List, NoMemory};
@@ -44,26 +44,25 @@ impl From<NoMemory> for PipeError {
     }
 }
 
-/// Why this is no pipeline, if it is none.
-pub(crate) fn check_spec(spec: &PipeSpec) -> Result<(), PipeError>
-    ensures ok { OnOk result (IsPipeline spec.now) }
-    ensures err { IfErr result (RefusesPipes spec.now) }
+/// Why this is no pipeline, if it is none: the first reason in the order of `PipeError`, which is never `NoMemory`.
+pub fn spec_fault(spec: &PipeSpec) -> Option<PipeError>
+    ensures { result ≡ spec_fault spec.now }
 {
     let serial = spec.serial.as_slice();
     if spec.lines == 0 {
-        return Err(PipeError::NoLines);
+        return Some(PipeError::NoLines);
     }
     if serial.is_empty() {
-        return Err(PipeError::NoPipes);
+        return Some(PipeError::NoPipes);
     }
     if !serial[0] {
-        return Err(PipeError::FirstParallel);
+        return Some(PipeError::FirstParallel);
     }
     if spec.lines > MAX_LINES {
-        return Err(PipeError::TooManyLines);
+        return Some(PipeError::TooManyLines);
     }
     if serial.len() > MAX_PIPES {
-        return Err(PipeError::TooManyPipes);
+        return Some(PipeError::TooManyPipes);
     }
-    Ok(())
+    None
 }
