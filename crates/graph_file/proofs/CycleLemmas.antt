@@ -17,7 +17,7 @@ use Rattle.pitfall_check.specs.declared.finding.Finding.TheVariants.{StrongCycle
 use Rattle.pitfall_check.specs.Findings.{AreFindings, finding_key}
 use Rattle.pitfall_check.specs.Walks.{IsOnStrongCycle, IsWalk}
 use Rattle.graph_plans.specs.ModuleUses.{first_on_cycle, is_on_cycle, reaches}
-use Rattle.graph_file.specs.inside.UseNets.{AreUses, IsFirstOnCycle, plain_row, use_edge, use_edges, use_net}
+use Rattle.graph_file.specs.inside.UseNets.{AreUses, IsFirstOnCycle, module_row, use_edge, use_edges, use_net}
 
 -- ---- options
 
@@ -125,7 +125,7 @@ use-edge n (used ∷ uses) (suc k) b has =
     let behind = edge-behind (map (use_edge n) used) (use_edges (suc n) uses) found.0 (use_edge (suc n + k) b) found.1 in
     (behind.0, behind.1 ∙ ap (λ m. Some (use_edge m b)) number)
 
-plain-at : (uses : List (List ℕ)) (t : ℕ) → option_map_or (λ (row : TaskRow). chooses row.shape) (slice_get (map (λ used. plain_row) uses) t) false ≡ false
+plain-at : (uses : List (List ℕ)) (t : ℕ) → option_map_or (λ (row : TaskRow). chooses row.shape) (slice_get (map (λ used. module_row) uses) t) false ≡ false
 plain-at [] t = refl
 plain-at (used ∷ uses) zero = refl
 plain-at (used ∷ uses) (suc t) = plain-at uses t
@@ -352,13 +352,13 @@ use_edges-more n uses i used within is =
         rw number (ap (λ es. map (use_edge n) first ++ es) (more (suc n) uses i used (omega (arith, within)) is) ∙ sym (append_assoc (map (use_edge n) first) (use_edges (suc n) (take i uses)) (map (use_edge (suc n + i)) used)))
 
 -- a task without semaphores stays as it is
-pub bare-task : (net : NetRows) → settled net plain_row ≡ plain_row
+pub bare-task : (net : NetRows) → settled net module_row ≡ module_row
 bare-task net = rw (rising-none (length net.sems)) refl
 
 -- the edges of one module more
 pub net-more : (uses : List (List ℕ)) (i : ℕ) (used shown : List ℕ) (old new : NetRows) → i < length uses → used ≡ get_or uses i used → shown ≡ used
-    → old ≡ record { tasks = map (λ (us : List ℕ). plain_row) uses; edges = use_edges 0 (take i uses); sems = [] } → new ≡ record old { edges = old.edges ++ map (use_edge i) shown }
-    → new ≡ record { tasks = map (λ (us : List ℕ). plain_row) uses; edges = use_edges 0 (take (i + 1) uses); sems = [] }
+    → old ≡ record { tasks = map (λ (us : List ℕ). module_row) uses; edges = use_edges 0 (take i uses); sems = [] } → new ≡ record old { edges = old.edges ++ map (use_edge i) shown }
+    → new ≡ record { tasks = map (λ (us : List ℕ). module_row) uses; edges = use_edges 0 (take (i + 1) uses); sems = [] }
 net-more uses i used shown old new within is same so_far added =
     let here : 0 + i ≡ i = omega arith in
     let more : use_edges 0 (take (i + 1) uses) ≡ use_edges 0 (take i uses) ++ map (use_edge i) used = use_edges-more 0 uses i used within is ∙ ap (λ m. use_edges 0 (take i uses) ++ map (use_edge m) used) here in

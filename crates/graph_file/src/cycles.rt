@@ -3,7 +3,7 @@ ghost use Rattle.std.specs.Prelude.{◌≡◌, ◌<◌, ◌≤◌, ◌++◌, All
 ghost use Rattle.graph_plans.specs.ModuleUses.{first_on_cycle};
 ghost use Rattle.pitfall_check.specs.Pitfalls.{BeginsWithoutTokens};
 ghost use Rattle.task_graph.specs.NetBuilder.{task_limit, with_edge, with_task};
-ghost use Rattle.graph_file.specs.inside.UseNets.{AreUses, IsFirstOnCycle, plain_row, use_edge, use_net};
+ghost use Rattle.graph_file.specs.inside.UseNets.{AreUses, IsFirstOnCycle, module_row, use_edge, use_net};
 
 use outside_io::{List, NoMemory};
 use pitfall_check::{Finding, check};
@@ -51,7 +51,7 @@ fn use_net(alloc: Global, uses: &[List<usize>]) -> Result<Net, NoMemory>
 }
 
 fn add_module(alloc: Global, builder: &mut NetBuilder) -> Result<(), NoMemory>
-    ensures net { OnOk result (builder.new ≡ with_task builder.old plain_row) }
+    ensures net { OnOk result (builder.new ≡ with_task builder.old module_row) }
     ensures room { OnOk result (length builder.old.tasks < task_limit) }
 {
     match builder.task(Shape::Plain, List::new(alloc), List::new(alloc)) {

@@ -10,8 +10,8 @@ use Rattle.pitfall_check.specs.Walks.{IsOnStrongCycle}
 abbrev pub AreUses : List (List ℕ) → Type 0
 AreUses uses = All (All (λ m. m < length uses)) uses
 
-abbrev pub plain_row : TaskRow
-plain_row = record { shape = Plain; takes = []; puts = [] }
+abbrev pub module_row : TaskRow
+module_row = record { shape = Plain; takes = []; puts = [] }
 
 abbrev pub use_edge : ℕ → ℕ → EdgeRow
 use_edge m u = record { from = m; to = u; start = false }
@@ -23,7 +23,7 @@ use_edges m (used ∷ uses) = map (use_edge m) used ++ use_edges (suc m) uses
 
 -- a task for each module, with these edges
 abbrev pub use_net : List (List ℕ) → NetRows
-use_net uses = record { tasks = map (λ used. plain_row) uses; edges = use_edges 0 uses; sems = [] }
+use_net uses = record { tasks = map (λ used. module_row) uses; edges = use_edges 0 uses; sems = [] }
 
 -- the least task on a cycle, if any is
 abbrev pub IsFirstOnCycle : NetRows → Option ℕ → Type 0
