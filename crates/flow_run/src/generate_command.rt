@@ -23,7 +23,7 @@ use super::round_ends::{after_runs, last_reason, status_of_rounds};
 use super::workers::{RoundsRun, run_rounds};
 use call_status::{Status, flushed};
 use command_line::{GREATEST_LIMIT, Generate, Rounds};
-use graph_generator::{Sample, generate};
+use graph_generator::{Generated, generate};
 use nested_runs::{inner_starts, starts};
 use outside_io::{Bytes, List, NoMemory, Sink, SinkFault, add_numbered, put_piece};
 use run_frame::{FrameRun, Job, ValueRow, last_ends};
@@ -106,7 +106,7 @@ fn generated_job<R: Wait>(rt: &R, alloc: Global, layers: u64) -> Result<TextJob,
     ensures job { IfOk result (IsGeneratedJob layers) }
     ensures graph { IfOk result IsGraphJob }
 {
-    let Sample { plan, text } = generate(alloc, layers)?;
+    let Generated { plan, text } = generate(alloc, layers)?;
     let mut texts = TextTable::new(alloc)?;
     texts.add(rt, Text::from_lines(alloc, text)?)?;
     let plan = Arc::new(alloc, plan)?;

@@ -1,7 +1,7 @@
 -- Nets in the making.
 use Rattle.std.proofs.Common.{◌≡◌, ◌≢◌, ℕ, zero, suc, ◌+◌, ◌<◌, List, [], ◌∷◌, ◌++◌, length, map, take, get_or, None, All, refl, sym, subst, ap, ◌∙◌, append_assoc, arith}
 use Rattle.std.proofs.lemmas.Option.{none-some}
-use Rattle.std.proofs.lemmas.List.{append-nil, get_or-map, length-map, length-take-le}
+use Rattle.std.proofs.lemmas.List.{append-nil, length-take-le}
 use Rattle.task_graph.specs.NetRows.{NetRows}
 use Rattle.task_graph.specs.NetBuilder.{with_task, repeated_semaphore, unknown_semaphore, RefusesTask}
 use Rattle.task_graph.specs.declared.builder.BuildError.{BuildError}
@@ -9,10 +9,9 @@ use Rattle.task_graph.specs.declared.builder.BuildError.TheVariants.{NoSuchTask,
 use Rattle.task_graph.specs.declared.net.EdgeRow.{EdgeRow}
 use Rattle.task_graph.specs.declared.net.TaskRow.{TaskRow}
 use Rattle.graph_plans.specs.declared.ops.Op.{Op}
-use Rattle.graph_file.specs.declared.nets.Edge.{Edge}
 use Rattle.graph_file.specs.declared.numbers.TaskNumbers.{TaskNumbers}
 use Rattle.graph_file.specs.PlanText.{edge_to, edges_from, task_row, task_rows}
-use Rattle.graph_file.specs.inside.Drafts.{AreIds, IsAmong, NamesOnce, edge_row, net_with}
+use Rattle.graph_file.specs.inside.Drafts.{AreIds, NamesOnce, net_with}
 use Rattle.graph_file.proofs.SettledLemmas.{none-twice, none-unknown}
 
 -- ---- a task of lists that name semaphores of the net, none twice
@@ -57,12 +56,6 @@ edges_from-more n (t ∷ tasks) zero task within = let here : n + 0 ≡ n = omeg
 edges_from-more n (t ∷ tasks) (suc i) task within =
     let number : n + suc i ≡ suc n + i = omega arith in
     rw number (ap (λ es. map (edge_to n) t.to ++ es) (edges_from-more (suc n) tasks i task (omega (arith, within))) ∙ sym (append_assoc (map (edge_to n) t.to) (edges_from (suc n) (take i tasks)) _))
-
--- the edge at a place is among the tasks
-pub among-at : (tasks : ℕ) (edges : List Edge) (i : ℕ) (d : Edge) → i < length edges → All (IsAmong tasks) (map edge_row edges) → IsAmong tasks (edge_row (get_or edges i d))
-among-at tasks edges i d within all =
-    let long : i < length (map edge_row edges) = rw (length-map edges edge_row) within in
-    subst (IsAmong tasks) (get_or-map edge_row edges i d (edge_row d) within) (all i (edge_row d) long)
 
 -- ---- while the tasks are added
 

@@ -1,23 +1,16 @@
 // The net of a graph file.
 ghost use Rattle.std.specs.Prelude.{◌≡◌, ◌<◌, ◌≤◌, ◌^◌, ◌++◌, [], All, IfOk, OnOk, length, map};
-ghost use Rattle.graph_plans.specs.Operations.{shape_of};
+ghost use Rattle.graph_plans.specs.PlanEdges.{IsAmong, edge_row};
 ghost use Rattle.graph_plans.specs.PlanRows.{file_edge_limit, file_semaphore_limit, file_task_limit};
-ghost use Rattle.task_graph.specs.NetBuilder.{empty_net, with_edge, with_semaphore, with_task};
+ghost use Rattle.task_graph.specs.NetBuilder.{empty_net, with_semaphore, with_task};
 ghost use Rattle.graph_file.specs.PlanText.{edge_to, edges_from, task_row};
-ghost use Rattle.graph_file.specs.inside.Drafts.{AreIds, IsAmong, NamesOnce, edge_row, net_with, with_sems};
+ghost use Rattle.graph_file.specs.inside.Drafts.{AreIds, NamesOnce, net_with, with_sems};
 
 use crate::numbers::TaskNumbers;
-use graph_plans::Op;
+use graph_plans::{Edge, Op, add_edges};
 use outside_io::{List, NoMemory};
 use std::alloc::Global;
-use task_graph::{BuildError, Net, NetBuilder, Shape};
-
-/// An edge by the numbers of its tasks.
-#[derive(Clone, Copy, Drop)]
-pub(crate) struct Edge {
-    pub from: usize,
-    pub to: usize,
-}
+use task_graph::{BuildError, Net, NetBuilder};
 
 /// The edges of the tasks of a graph, in file order.
 pub(crate) fn edges_of(alloc: Global, tasks: &[TaskNumbers]) -> Result<List<Edge>, NoMemory>
@@ -63,7 +56,7 @@ pub(crate) fn net_with(
     let mut builder = NetBuilder::new(alloc);
     add_semaphores(&mut builder, sems)?;
     add_tasks(alloc, &mut builder, ops, tasks)?;
-    add_edges(&mut builder, tasks.len(), edges)?;
+    add_edges(&mut builder, edges)?;
     Ok(builder.finish())
 }
 
@@ -124,7 +117,7 @@ fn add_task(
 {
     let takes = ids_of(alloc, task.takes.as_slice())?;
     let puts = ids_of(alloc, task.puts.as_slice())?;
-    match builder.task(shape_of(op), takes, puts) {
+    match builder.task(op.shape(), takes, puts) {
         Ok(_) => Ok(()),
         Err(BuildError::NoMemory) => Err(NoMemory),
         Err(_) => unreachable!(),
@@ -141,41 +134,4 @@ fn ids_of(alloc: Global, numbers: &[usize]) -> Result<List<u32>, NoMemory>
         ids.push(*number as u32)?;
     }
     Ok(ids)
-}
-
-fn shape_of(op: &Op) -> Shape
-    ensures { result ≡ shape_of op.now }
-{
-    match op {
-        Op::Input | Op::Read(_) | Op::Text(_) | Op::Match => Shape::Plain,
-        Op::Back | Op::IfMore(_) | Op::IfHas(_) => Shape::Choice,
-        Op::Route(_) => Shape::Many,
-        Op::Spread(_, _) | Op::Module(_) | Op::Pipe(_) => Shape::Nested,
-    }
-}
-
-fn add_edges(builder: &mut NetBuilder, tasks: usize, edges: &[Edge]) -> Result<(), NoMemory>
-    requires tasks { (length builder.old.tasks ≡ tasks) × (tasks ≤ file_task_limit) }
-    requires none { builder.old.edges ≡ [] }
-    requires room { length edges.now ≤ file_edge_limit }
-    requires among { All (IsAmong tasks) (map edge_row edges.now) }
-    ensures { OnOk result (builder.new ≡ record builder.old { edges = map edge_row edges.now }) }
-{
-    for edge in edges {
-        add_edge(builder, *edge)?;
-    }
-    Ok(())
-}
-
-fn add_edge(builder: &mut NetBuilder, edge: Edge) -> Result<(), NoMemory>
-    requires tasks { length builder.old.tasks ≤ file_task_limit }
-    requires room { length builder.old.edges < file_edge_limit }
-    requires among { IsAmong (length builder.old.tasks) (edge_row edge) }
-    ensures { OnOk result (builder.new ≡ with_edge builder.old (edge_row edge)) }
-{
-    match builder.edge(edge.from as u32, edge.to as u32, false) {
-        Ok(_) => Ok(()),
-        Err(BuildError::NoMemory) => Err(NoMemory),
-        Err(_) => unreachable!(),
-    }
 }

@@ -8,7 +8,6 @@ use Rattle.graph_generator.specs.Draws.{next_state, state_after, draw}
 use Rattle.graph_generator.specs.GeneratedText.{text_line, text_lines, generated_text}
 use Rattle.graph_generator.specs.GeneratedPlan.{max_layers, op_draw, edge_draw, layer_name, layer_op, second_before, leads_to, next_layer, tasks_behind, successors, generated_pipeline, edge, layer_tasks, generated_names, generated_ops, layer_edges, generated_edges, generated_row, generated_graph, generated_plan}
 use Rattle.graph_generator.specs.inside.Drawn.{draws, drawn}
-use Rattle.graph_generator.specs.inside.Edges.{IsAmong, edge_row}
 
 -- ---- numbers
 
@@ -172,14 +171,3 @@ no_module = refl
 
 one_text : (generated_plan 5).texts ≡ codes "gen.txt" ∷ []
 one_text = refl
-
--- ---- edges
-
-edge_of_tasks : edge_row (record { from = 3; to = 13 }) ≡ edge 3 13
-edge_of_tasks = refl
-
-among_tasks : IsAmong 17 (edge 9 16)
-among_tasks = record { from = omega arith; to = omega arith }
-
-not_among_tasks : ¬ IsAmong 17 (edge 9 17)
-not_among_tasks is = omega (arith, is.to)

@@ -1,19 +1,13 @@
 // The edges of generated graphs.
 ghost use Rattle.std.specs.Prelude.{◌≡◌, ◌≤◌, ◌<◌, ◌+◌, ◌*◌, ◌/◌, ◌++◌, [], ◌∷◌, IfOk, OnOk, map};
+ghost use Rattle.graph_plans.specs.PlanEdges.{edge_row};
 ghost use Rattle.graph_generator.specs.GeneratedPlan.{edge, generated_edges, last_edges, layer_edges, leads_to, max_layers, second_before, tasks_behind};
 ghost use Rattle.graph_generator.specs.inside.Drawn.{drawn};
-ghost use Rattle.graph_generator.specs.inside.Edges.{edge_row};
 
-use crate::sample::LAYER_WIDTH;
+use crate::generated::LAYER_WIDTH;
+use graph_plans::Edge;
 use outside_io::{List, NoMemory};
 use std::alloc::Global;
-
-/// An edge by the numbers of its tasks.
-#[derive(Clone, Copy, Drop)]
-pub(crate) struct Edge {
-    pub from: usize,
-    pub to: usize,
-}
 
 /// The edges of so many layers, by their draws.
 pub(crate) fn edges_of(alloc: Global, layers: usize, draws: &[u64]) -> Result<List<Edge>, NoMemory>

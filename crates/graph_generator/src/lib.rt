@@ -7,10 +7,10 @@
 
 mod draws;
 mod edges;
+mod generated;
 mod names;
 mod nets;
 mod ops;
-mod sample;
 mod text;
 
-pub use sample::{MAX_LAYERS, Sample, generate};
+pub use generated::{Generated, MAX_LAYERS, generate};

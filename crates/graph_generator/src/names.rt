@@ -2,7 +2,7 @@
 ghost use Rattle.std.specs.Prelude.{◌≡◌, ◌≤◌, ◌++◌, [], ◌∷◌, IfOk, OnOk};
 ghost use Rattle.graph_generator.specs.GeneratedPlan.{generated_names, last_names, layer_name, max_layers};
 
-use crate::sample::LAYER_WIDTH;
+use crate::generated::LAYER_WIDTH;
 use outside_io::{Bytes, List, NoMemory, add_numbered};
 use std::alloc::Global;
 

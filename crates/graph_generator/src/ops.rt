@@ -3,7 +3,7 @@ ghost use Rattle.std.specs.Prelude.{◌≡◌, ◌≤◌, ◌++◌, [], ◌∷�
 ghost use Rattle.graph_generator.specs.GeneratedPlan.{even_op, generated_ops, generated_pipeline, last_ops, layer_op, max_layers, odd_op};
 ghost use Rattle.graph_generator.specs.inside.Drawn.{drawn};
 
-use crate::sample::LAYER_WIDTH;
+use crate::generated::LAYER_WIDTH;
 use graph_plans::{LineOp, Op, PipePlan, TextOp};
 use outside_io::{List, NoMemory};
 use pipe_lines::{DeferRow, PipeSpec};

@@ -16,12 +16,12 @@ pub(crate) fn text_of(alloc: Global, seed: u64, lines: usize) -> Result<Bytes, N
     let draws = draws_from(alloc, seed, lines)?;
     let mut text = List::new(alloc);
     for number in 0..lines {
-        add_line(&mut text, number as u64, draws[number])?;
+        add_drawn_line(&mut text, number as u64, draws[number])?;
     }
     Ok(text)
 }
 
-fn add_line(text: &mut Bytes, number: u64, drawn: u64) -> Result<(), NoMemory>
+fn add_drawn_line(text: &mut Bytes, number: u64, drawn: u64) -> Result<(), NoMemory>
     ensures { OnOk result (text.new ≡ text.old ++ text_line number drawn) }
 {
     add_numbered(text, b"w", drawn % WORDS)?;

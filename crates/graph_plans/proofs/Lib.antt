@@ -1,1 +1,3 @@
+pub mod EdgeLemmas
 pub mod SourceLemmas
+mod WorkedEdges

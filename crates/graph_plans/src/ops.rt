@@ -1,6 +1,10 @@
 // The operations of tasks.
+ghost use Rattle.std.specs.Prelude.{◌≡◌};
+ghost use Rattle.graph_plans.specs.Operations.{shape_of};
+
 use crate::pipes::PipePlan;
 use outside_io::{Bytes, List};
+use task_graph::Shape;
 
 /// An operation on one text. A number of lines is at most 1,000,000,000, a word has at most 4,096 bytes.
 #[derive(Drop)]
@@ -53,4 +57,18 @@ pub enum Op {
     Module(u32),
     /// The task's text in parts of so many lines, each put through the pipes, and then one after another.
     Pipe(PipePlan),
+}
+
+impl Op {
+    /// The shape of the operation's task in a net.
+    pub fn shape(&self) -> Shape
+        ensures { result ≡ shape_of self.now }
+    {
+        match self {
+            Op::Input | Op::Read(_) | Op::Text(_) | Op::Match => Shape::Plain,
+            Op::Back | Op::IfMore(_) | Op::IfHas(_) => Shape::Choice,
+            Op::Route(_) => Shape::Many,
+            Op::Spread(_, _) | Op::Module(_) | Op::Pipe(_) => Shape::Nested,
+        }
+    }
 }

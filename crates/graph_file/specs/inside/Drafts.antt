@@ -5,7 +5,6 @@ use Rattle.task_graph.specs.declared.net.EdgeRow.{EdgeRow}
 use Rattle.graph_plans.specs.declared.ops.Op.{Op}
 use Rattle.graph_plans.specs.Operations.{IsOp}
 use Rattle.graph_plans.specs.PlanRows.{IsTextName, file_edge_limit, file_semaphore_limit, file_task_limit, maximum_limit}
-use Rattle.graph_file.specs.declared.nets.Edge.{Edge}
 use Rattle.graph_file.specs.declared.numbers.TaskNumbers.{TaskNumbers}
 use Rattle.graph_file.specs.OpRows.{FileOpRow, reads, runs, does}
 use Rattle.graph_file.specs.PlanText.{DraftRows, FileNumbers, FileRows, TaskText, edge_total, graph_names, graph_numbers, names_of_modules, task_names, task_rows}
@@ -64,14 +63,6 @@ pub record NamesOnce (sems : ℕ) (task : TaskNumbers) : Type 0 where
   pub takes : AreIds sems task.takes
   pub puts : AreIds sems task.puts
 
--- both ends of an edge are among so many tasks
-pub record IsAmong (tasks : ℕ) (edge : EdgeRow) : Type 0 where
-  pub from : edge.from < tasks
-  pub to : edge.to < tasks
-
-abbrev pub edge_row : Edge → EdgeRow
-edge_row edge = record { from = edge.from; to = edge.to; start = false }
-
 -- the net of semaphores with these maxima
 abbrev pub with_sems : List ℕ → NetRows
 with_sems sems = record { tasks = []; edges = []; sems = sems }
@@ -79,6 +70,3 @@ with_sems sems = record { tasks = []; edges = []; sems = sems }
 -- the net of these semaphores, of tasks with these operations and numbers, and of these edges
 abbrev pub net_with : List ℕ → List Op → List TaskNumbers → List EdgeRow → NetRows
 net_with sems ops tasks edges = record { tasks = task_rows (length sems) ops tasks; edges = edges; sems = sems }
-
-abbrev pub edge_rows : List Edge → List EdgeRow
-edge_rows edges = map edge_row edges

@@ -12,11 +12,11 @@ use Rattle.graph_plans.specs.declared.ops.TextOp.TheVariants.{Pass, Keep, Withou
 use Rattle.graph_plans.specs.declared.pipes.LineOp.{LineOp}
 use Rattle.graph_plans.specs.declared.pipes.LineOp.TheVariants.{Text as LineText, Number, Stamp}
 use Rattle.graph_plans.specs.declared.pipes.PipePlan.{PipePlan}
+use Rattle.graph_plans.specs.PlanEdges.{IsAmong}
 use Rattle.graph_plans.specs.PlanRows.{GraphRows, PlanRows, file_task_limit, module_names}
 use Rattle.graph_writer.specs.declared.op_writer.WrittenOp.{WrittenOp}
 use Rattle.graph_file.specs.PlanText.{TaskNames}
 use Rattle.graph_writer.specs.WrittenPlan.{OpText, sems_named, to_of}
-use Rattle.graph_file.specs.inside.Drafts.{IsAmong}
 
 -- what is written as a string is UTF-8
 abbrev pub IsString : List ℕ → Type 0

@@ -1,6 +1,6 @@
 use Rattle.std.proofs.Common.{◌++◌, map, ap, ◌∙◌}
+use Rattle.graph_plans.specs.PlanEdges.{edge_row}
 use Rattle.graph_file.specs.PlanText.{edge_to}
-use Rattle.graph_file.specs.inside.Drafts.{edge_row}
 use Rattle.graph_file.proofs.NetLemmas.{edges-more}
 use Rattle.graph_file.proofs.nets.edges_of.Goals as goal
 

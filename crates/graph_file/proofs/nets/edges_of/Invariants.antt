@@ -1,6 +1,6 @@
 use Rattle.std.proofs.Common.{◌≡◌, map, take}
+use Rattle.graph_plans.specs.PlanEdges.{edge_row}
 use Rattle.graph_file.specs.PlanText.{edges_from}
-use Rattle.graph_file.specs.inside.Drafts.{edge_row}
 use Rattle.graph_file.proofs.nets.edges_of.Given as goal
 
 abbrev pub invariant-loop-from : goal.invariant-loop-from

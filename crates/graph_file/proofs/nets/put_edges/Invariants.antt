@@ -1,6 +1,6 @@
 use Rattle.std.proofs.Common.{◌≡◌, ◌++◌, map, take}
+use Rattle.graph_plans.specs.PlanEdges.{edge_row}
 use Rattle.graph_file.specs.PlanText.{edge_to}
-use Rattle.graph_file.specs.inside.Drafts.{edge_row}
 use Rattle.graph_file.proofs.nets.put_edges.Given as goal
 
 abbrev pub invariant-loop-task : goal.invariant-loop-task

@@ -1,7 +1,7 @@
 use Rattle.std.proofs.Common.{◌≡◌, ℕ, ◌+◌, ◌-◌, ◌*◌, ◌/◌, ◌++◌, map, filter, sym, ap, ◌∙◌, arith}
 use Rattle.std.specs.List.{range_with_len}
+use Rattle.graph_plans.specs.PlanEdges.{edge_row}
 use Rattle.graph_generator.specs.GeneratedPlan.{edge, edge_draw, leads_to}
-use Rattle.graph_generator.specs.inside.Edges.{edge_row}
 use Rattle.graph_generator.proofs.DrawLemmas.{draw-at, draws-length, passing-dropped, passing-kept}
 use Rattle.graph_generator.proofs.EdgeLemmas.{layer-range, one-more}
 use Rattle.graph_generator.proofs.edges.add_edges_behind.Goals.{then-leads_to+in_ok-push_edge, else-leads_to}

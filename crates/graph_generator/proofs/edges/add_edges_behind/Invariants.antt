@@ -1,7 +1,7 @@
 use Rattle.std.proofs.Common.{◌≡◌, ◌++◌, ◌-◌, map, filter}
 use Rattle.std.specs.List.{range_with_len}
+use Rattle.graph_plans.specs.PlanEdges.{edge_row}
 use Rattle.graph_generator.specs.GeneratedPlan.{edge, edge_draw, leads_to}
-use Rattle.graph_generator.specs.inside.Edges.{edge_row}
 use Rattle.graph_generator.proofs.edges.add_edges_behind.Given as goal
 
 abbrev pub invariant-loop-to : goal.invariant-loop-to

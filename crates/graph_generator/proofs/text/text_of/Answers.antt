@@ -19,5 +19,5 @@ offset_bounds-deref-number c =
 
 pub loop-number-preserved : goal.loop-number-preserved
 loop-number-preserved c =
-    lines-next c.args.seed c.args.lines c.loop-number.number c.deref.result.now c.loop-number.text c.add_line.new.text c.loop-number-test.true (c.deref.ensures ∙ c.in_ok-draws.ensures)
-    c.loop-number.invariant c.in_ok-add_line.ensures
+    lines-next c.args.seed c.args.lines c.loop-number.number c.deref.result.now c.loop-number.text c.add_drawn_line.new.text c.loop-number-test.true (c.deref.ensures ∙ c.in_ok-draws.ensures)
+    c.loop-number.invariant c.in_ok-add_drawn_line.ensures

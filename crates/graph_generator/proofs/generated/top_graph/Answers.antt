@@ -1,10 +1,10 @@
 use Rattle.std.proofs.Common.{List, length, map, All, sym, ap, subst, ◌∙◌, arith}
 use Rattle.std.proofs.lemmas.List.{length-map}
 use Rattle.task_graph.specs.declared.net.EdgeRow.{EdgeRow}
-use Rattle.graph_generator.specs.inside.Edges.{IsAmong, edge_row}
+use Rattle.graph_plans.specs.PlanEdges.{IsAmong, edge_row}
 use Rattle.graph_generator.proofs.EdgeLemmas.{edges-all, edges-count}
 use Rattle.graph_generator.proofs.OpLemmas.{ops-count}
-use Rattle.graph_generator.proofs.sample.top_graph.Goals as goal
+use Rattle.graph_generator.proofs.generated.top_graph.Goals as goal
 
 pub net_of-requires-clause-tasks : goal.net_of-requires-clause-tasks
 net_of-requires-clause-tasks c =

@@ -1,7 +1,7 @@
 use Rattle.std.proofs.Common.{◌∷◌, [], ◌++◌, List, ℕ, sym, ap, subst, ◌∙◌}
 use Rattle.graph_plans.specs.PlanRows.{IsPlan}
 use Rattle.graph_generator.proofs.RuleLemmas.{plan-keeps, plan-made}
-use Rattle.graph_generator.proofs.sample.generate.Goals as goal
+use Rattle.graph_generator.proofs.generated.generate.Goals as goal
 
 pub returns-clause-rules : goal.returns-clause-rules
 returns-clause-rules c =

@@ -27,24 +27,24 @@ pub(crate) const LAYER_WIDTH: usize = 10;
 
 /// A plan, and the text that it names.
 #[derive(Drop)]
-pub struct Sample {
+pub struct Generated {
     pub plan: Plan,
     pub text: Bytes,
 }
 
 /// The plan of so many layers, with its text. The same number gives the same plan and text.
-pub fn generate(alloc: Global, layers: u64) -> Result<Sample, NoMemory>
+pub fn generate(alloc: Global, layers: u64) -> Result<Generated, NoMemory>
     requires some { 1 ≤ layers }
     requires few { layers ≤ max_layers }
-    ensures plan { IfOk result (λ sample. plan_rows sample.plan ≡ generated_plan layers) }
-    ensures rules { IfOk result (λ sample. IsPlan (plan_rows sample.plan)) }
-    ensures text { IfOk result (λ sample. sample.text ≡ generated_text layers) }
+    ensures plan { IfOk result (λ generated. plan_rows generated.plan ≡ generated_plan layers) }
+    ensures rules { IfOk result (λ generated. IsPlan (plan_rows generated.plan)) }
+    ensures text { IfOk result (λ generated. generated.text ≡ generated_text layers) }
 {
     let draws = draws_from(alloc, layers, 180 + 20 * layers as usize)?;
     let top = top_graph(alloc, layers as usize, draws.as_slice())?;
     let mut texts = List::new(alloc);
     texts.push(List::from_slice(alloc, b"gen.txt")?)?;
-    Ok(Sample {
+    Ok(Generated {
         plan: Plan {
             top,
             modules: List::new(alloc),

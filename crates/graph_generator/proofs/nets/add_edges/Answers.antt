@@ -1,8 +1,0 @@
-use Rattle.std.proofs.Common.{◌≡◌, length, sym, ap, ◌∙◌}
-use Rattle.graph_generator.proofs.NetLemmas.{among-at}
-use Rattle.graph_generator.proofs.nets.add_edges.Goals as goal
-
-pub add_edge-requires-clause-among : goal.add_edge-requires-clause-among
-add_edge-requires-clause-among c =
-    let count : c.args.tasks ≡ length c.loop-edge.builder.tasks = sym c.requires.tasks ∙ ap (λ net. length net.tasks) (sym c.loop-edge.invariant) in
-    rw (← count) (among-at c.args.tasks c.args.edges.now c.loop-edge.edge-index (record { from = 0; to = 0 }) c.loop-edge-test.true c.requires.among)
