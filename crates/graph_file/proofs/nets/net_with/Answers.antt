@@ -1,4 +1,4 @@
-use Rattle.std.proofs.Common.{◌≡◌, length, sym, ap, ◌∙◌, arith}
+use Rattle.std.proofs.Common.{◌≡◌, length, ap, ◌∙◌, arith}
 use Rattle.task_graph.specs.NetRows.{NetRows}
 use Rattle.graph_file.proofs.NetLemmas.{task_rows-length}
 use Rattle.graph_file.proofs.nets.net_with.Goals as goal
@@ -13,4 +13,11 @@ add_edges-requires-clause-tasks c =
     let ops = c.args.ops.now in
     let rows : length c.add_tasks.new.builder.tasks ≡ length ops =
     ap (λ (net : NetRows). length net.tasks) c.in_ok-add_tasks.ensures ∙ task_rows-length (length c.add_semaphores.new.builder.sems) ops c.args.tasks.now c.requires.each in
-    (rows ∙ sym c.requires.each, omega (arith, c.requires.each, c.requires.tasks))
+    omega (arith, rows, c.requires.tasks)
+
+pub add_edges-requires-clause-among : goal.add_edges-requires-clause-among
+add_edges-requires-clause-among c =
+    let ops = c.args.ops.now in
+    let rows : length c.add_tasks.new.builder.tasks ≡ length ops =
+    ap (λ (net : NetRows). length net.tasks) c.in_ok-add_tasks.ensures ∙ task_rows-length (length c.add_semaphores.new.builder.sems) ops c.args.tasks.now c.requires.each in
+    rw rows c.requires.among
