@@ -9,8 +9,8 @@ use Rattle.graph_plans.specs.PlanRows.{GraphRows, PlanRows}
 use Rattle.graph_plans.specs.declared.pipes.LineOp.TheVariants.{Number, Stamp}
 use Rattle.pipe_lines.specs.declared.pipeline.PipeError.TheVariants as pipes
 use Rattle.graph_plans.specs.declared.spots.Spot.TheVariants.{File, Sem, Task, Module, ModuleSem, ModuleTask}
-use Rattle.graph_file.specs.declared.refusals.Kind.TheVariants as kind
-use Rattle.graph_file.specs.declared.refusals.GraphError.TheVariants as error
+use Rattle.graph_drafts.specs.declared.refusals.Kind.TheVariants as kind
+use Rattle.graph_drafts.specs.declared.refusals.GraphError.TheVariants as error
 use Rattle.journal_rules.specs.declared.entry.Why.TheVariants.{Long as TooLong, Wide, Unmet, Inner, OverRelease}
 use Rattle.legal_run.specs.declared.verdict.Break.TheVariants.{NotReleased}
 use Rattle.nested_runs.specs.declared.reasons.Reason.TheVariants as reason

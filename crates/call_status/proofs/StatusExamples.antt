@@ -2,7 +2,7 @@
 use Rattle.std.proofs.Common.{◌≡◌, ℕ, List, [], ◌∷◌, length, get_or, ◌++◌, Option, Some, None, Ok, Err, refl, arith, ap, ◌∙◌}
 use Rattle.outside_io.specs.Sink.{SinkState}
 use Rattle.outside_io.specs.declared.ports.sink.SinkFault.TheVariants as fault
-use Rattle.graph_file.specs.declared.refusals.GraphError.TheVariants.{NotJson}
+use Rattle.graph_drafts.specs.declared.refusals.GraphError.TheVariants.{NotJson}
 use Rattle.graph_plans.specs.declared.spots.Spot.TheVariants.{File}
 use Rattle.journal_rules.specs.declared.entry.Why.TheVariants.{Long as TooLong}
 use Rattle.legal_run.specs.declared.verdict.Break.TheVariants.{NotOpen}

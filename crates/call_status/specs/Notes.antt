@@ -3,10 +3,10 @@ use Rattle.std.specs.Prelude.{ℕ, List, [], ◌++◌, codes, decimal, Option}
 use Rattle.graph_plans.specs.declared.spots.Spot.{Spot}
 use Rattle.graph_plans.specs.declared.spots.Spot.TheVariants.{File, Sem, Task, Module, ModuleSem, ModuleTask}
 use Rattle.graph_plans.specs.PlanRows.{PlanRows}
-use Rattle.graph_file.specs.declared.refusals.Kind.{Kind}
-use Rattle.graph_file.specs.declared.refusals.Kind.TheVariants as kind
-use Rattle.graph_file.specs.declared.refusals.GraphError.{GraphError}
-use Rattle.graph_file.specs.declared.refusals.GraphError.TheVariants as error
+use Rattle.graph_drafts.specs.declared.refusals.Kind.{Kind}
+use Rattle.graph_drafts.specs.declared.refusals.Kind.TheVariants as kind
+use Rattle.graph_drafts.specs.declared.refusals.GraphError.{GraphError}
+use Rattle.graph_drafts.specs.declared.refusals.GraphError.TheVariants as error
 use Rattle.pipe_lines.specs.declared.pipeline.PipeError.{PipeError}
 use Rattle.pipe_lines.specs.declared.pipeline.PipeError.TheVariants as pipes
 use Rattle.call_status.specs.Reasons.{fault_text, limit_text, stuck_text}

@@ -1,6 +1,6 @@
 // Why a call ends before its run.
 ghost use Rattle.std.specs.Prelude.{◌≡◌, ◌≢◌};
-ghost use Rattle.graph_file.specs.declared.refusals.GraphError.TheVariants.{NoMemory as NoMemoryToRead};
+ghost use Rattle.graph_drafts.specs.declared.refusals.GraphError.TheVariants.{NoMemory as NoMemoryToRead};
 
 use graph_file::GraphError;
 use graph_plans::Spot;

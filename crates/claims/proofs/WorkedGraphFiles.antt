@@ -21,20 +21,21 @@ use Rattle.graph_plans.specs.declared.plans.Graph.{Graph}
 use Rattle.graph_plans.specs.PlanRows.{GraphRows, PlanRows, IsGraph, IsPlan, IsTextName, edge_count, graph_rows, graphs_of, module_names, module_uses, plan_rows, semaphore_count, task_count}
 use Rattle.task_graph.specs.Sources.{HasNoSource}
 use Rattle.graph_plans.specs.Sources.{NoSourceAnswer}
-use Rattle.graph_file.specs.declared.refusals.GraphError.{GraphError}
-use Rattle.graph_file.specs.declared.refusals.GraphError.TheVariants.{NotJson, BadField, NoSuchName, Repeated, ModuleCycle, TooMany}
-use Rattle.graph_file.specs.declared.refusals.Kind.TheVariants as kind
-use Rattle.graph_file.specs.declared.scopes.Scope.{Scope}
-use Rattle.graph_file.specs.declared.scopes.Scope.TheVariants.{Top, Module as OfModule}
+use Rattle.graph_drafts.specs.declared.refusals.GraphError.{GraphError}
+use Rattle.graph_drafts.specs.declared.refusals.GraphError.TheVariants.{NotJson, BadField, NoSuchName, Repeated, ModuleCycle, TooMany}
+use Rattle.graph_drafts.specs.declared.refusals.Kind.TheVariants as kind
+use Rattle.graph_drafts.specs.declared.scopes.Scope.{Scope}
+use Rattle.graph_drafts.specs.declared.scopes.Scope.TheVariants.{Top, Module as OfModule}
 use Rattle.graph_file.specs.declared.numbers.TaskNumbers.{TaskNumbers}
-use Rattle.graph_file.specs.Contents.{is_name, is_name_byte, line_count_of, part_size_of, whole_of}
-use Rattle.graph_file.specs.Fields.{allowed, graph_spot, needed, only, sem_spot, task_spot}
-use Rattle.graph_file.specs.OpRows.{FileOpRow, does, reads, runs}
-use Rattle.graph_file.specs.PlanText.{Counts, DraftRows, FileNumbers, FileRows, HasFile, PlanText, TaskNames, TaskText, add_graph_numbers, add_module_name, add_name, add_numbers, add_task_name, edge_total, edges_from, empty_draft, file_counts, file_names, file_numbers, file_texts, file_uses, graph_names, graph_numbers, graph_with, graphs_with, mentioned, mentioned_by_graphs, mentioned_by_tasks, names_of_modules, names_of_tasks, nests_too_deep, number_among, numbered, ops_of, plan_of, puts_field, runs_one_of, takes_field, task_names, task_row, task_rows, used_before, used_by_tasks, with_semaphore, with_task_text, within_counts, within_limits}
+use Rattle.graph_drafts.specs.Contents.{is_name, is_name_byte, line_count_of, part_size_of, whole_of}
+use Rattle.graph_drafts.specs.Fields.{allowed, graph_spot, needed, only, sem_spot, task_spot}
+use Rattle.graph_drafts.specs.OpRows.{FileOpRow, does, reads, runs}
+use Rattle.graph_drafts.specs.FileText.{DraftRows, FileRows, TaskNames, TaskText, empty_draft, puts_field, takes_field, with_semaphore, with_task_text}
+use Rattle.graph_file.specs.PlanText.{Counts, FileNumbers, HasFile, PlanText, add_graph_numbers, add_module_name, add_name, add_numbers, add_task_name, edge_total, edges_from, file_counts, file_names, file_numbers, file_texts, file_uses, graph_names, graph_numbers, graph_with, graphs_with, mentioned, mentioned_by_graphs, mentioned_by_tasks, names_of_modules, names_of_tasks, nests_too_deep, number_among, numbered, ops_of, plan_of, runs_one_of, task_names, task_row, task_rows, used_before, used_by_tasks, within_counts, within_limits}
 use Rattle.graph_file.proofs.PlanLemmas.{IsPlan-read}
 use Rattle.json.specs.Print.{escape_byte}
 use Rattle.std.specs.Fmt.{digits}
-use Rattle.graph_file.specs.Steps.{otherwise, walk}
+use Rattle.graph_drafts.specs.Steps.{otherwise, walk}
 use Rattle.graph_writer.specs.WrittenPlan.{each_data, module_data, module_with, op_text, to_of, plan_data, file_data, sem_data, sems_from, sems_named, spread_text, task_data, tasks_data, plan_text}
 
 abbrev a : List ℕ

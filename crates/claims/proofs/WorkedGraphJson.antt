@@ -6,15 +6,16 @@ use Rattle.serde_json.specs.View.{items_of}
 use Rattle.graph_plans.specs.declared.ops.Op.TheVariants.{Input, Text, Match, Back, IfMore, IfHas, Route, Spread}
 use Rattle.graph_plans.specs.declared.ops.TextOp.TheVariants.{Pass, Keep, Without, Head, Tail, Skip, Sort, Uniq, Count, Tally}
 use Rattle.graph_plans.specs.declared.spots.Spot.TheVariants.{File, Sem, Task, Module, ModuleSem, ModuleTask}
-use Rattle.graph_file.specs.declared.refusals.GraphError.{GraphError}
-use Rattle.graph_file.specs.declared.refusals.GraphError.TheVariants.{NotJson, BadField, NoSuchName, TooMany}
-use Rattle.graph_file.specs.declared.refusals.Kind.TheVariants as kind
+use Rattle.graph_drafts.specs.declared.refusals.GraphError.{GraphError}
+use Rattle.graph_drafts.specs.declared.refusals.GraphError.TheVariants.{NotJson, BadField, NoSuchName, TooMany}
+use Rattle.graph_drafts.specs.declared.refusals.Kind.TheVariants as kind
 use Rattle.std.specs.Str.{is_utf8, chars}
 use lib.Utf8.{encode}
-use Rattle.graph_file.specs.Contents.{is_name_byte, objects_of, name_of, name_list_of, text_name_of, word_of, words_of}
-use Rattle.graph_file.specs.declared.scopes.Scope.TheVariants.{Top, Module as OfModule}
-use Rattle.graph_file.specs.OpRows.{FileOpRow, WithFields, reads, runs, does, op_rows, text_rows, op_in, each_in, spread_in, text_op_in}
-use Rattle.graph_file.specs.PlanText.{Counts, DraftRows, FileNumbers, FileRows, TaskText, add_module, add_semaphore, add_task, empty_draft, file_counts, file_in, graph_in, json_in, module_in, plan_in, with_semaphore, with_task_text, within_counts, within_limits}
+use Rattle.graph_drafts.specs.Contents.{is_name_byte, objects_of, name_of, name_list_of, text_name_of, word_of, words_of}
+use Rattle.graph_drafts.specs.declared.scopes.Scope.TheVariants.{Top, Module as OfModule}
+use Rattle.graph_drafts.specs.OpRows.{FileOpRow, WithFields, reads, runs, does, op_rows, text_rows, op_in, each_in, spread_in, text_op_in}
+use Rattle.graph_drafts.specs.FileText.{DraftRows, FileRows, TaskText, add_module, add_semaphore, add_task, empty_draft, file_in, graph_in, module_in, with_semaphore, with_task_text}
+use Rattle.graph_file.specs.PlanText.{Counts, FileNumbers, file_counts, json_in, plan_in, within_counts, within_limits}
 
 abbrev a : List ℕ
 a = codes "a"

@@ -17,11 +17,12 @@ use Rattle.graph_plans.specs.declared.spots.Spot.TheVariants.{Task, ModuleTask}
 use Rattle.graph_plans.specs.ModuleUses.{modules_run}
 use Rattle.graph_plans.specs.PlanRows.{GraphRows, HasPipelines}
 use Rattle.graph_plans.specs.Operations.{HasPipeline, IsLineOp, IsOp, IsPipePlan, shape_of}
-use Rattle.graph_file.specs.declared.refusals.GraphError.TheVariants.{BadField, BadPipe, Repeated}
-use Rattle.graph_file.specs.declared.scopes.Scope.TheVariants.{Top, Module as OfModule}
-use Rattle.graph_file.specs.Contents.{defer_objects_of, pipe_lines_of, targets_of, token_number_of}
-use Rattle.graph_file.specs.OpRows.{FileOpRow, PipeRows, add_defer, add_pipe, defers_in, does, line_rows, may_have, op_in, op_rows, pipe_in, pipes_in, reads, runs, text_rows}
-use Rattle.graph_file.specs.PlanText.{DraftRows, TaskText, add_pipeline, empty_draft, file_op_fault, file_pipelines, graph_pipelines, pipe_fault, plan_of}
+use Rattle.graph_drafts.specs.declared.refusals.GraphError.TheVariants.{BadField, BadPipe, Repeated}
+use Rattle.graph_drafts.specs.declared.scopes.Scope.TheVariants.{Top, Module as OfModule}
+use Rattle.graph_drafts.specs.Contents.{defer_objects_of, pipe_lines_of, targets_of, token_number_of}
+use Rattle.graph_drafts.specs.OpRows.{FileOpRow, PipeRows, add_defer, add_pipe, defers_in, does, line_rows, may_have, op_in, op_rows, pipe_in, pipes_in, reads, runs, text_rows}
+use Rattle.graph_drafts.specs.FileText.{DraftRows, TaskText, empty_draft}
+use Rattle.graph_file.specs.PlanText.{add_pipeline, file_op_fault, file_pipelines, graph_pipelines, pipe_fault, plan_of}
 use Rattle.graph_writer.specs.WrittenPlan.{defer_data, op_text, pipe_data}
 
 abbrev whole : ℕ → Data

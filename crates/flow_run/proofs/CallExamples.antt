@@ -3,9 +3,9 @@
 use Rattle.std.proofs.Common.{◌≡◌, ℕ, ◌<◌, List, [], ◌∷◌, length, ◌⊎◌, Option, Some, None, true, false, inl, inr, refl, arith, ap, sym, subst, ◌∙◌, Result, Ok, Err}
 use Rattle.std.specs.Prelude.{if◌then◌else◌, bytes_eq}
 use Rattle.outside_io.specs.Sink.{SinkState}
-use Rattle.graph_file.specs.declared.refusals.GraphError.TheVariants.{NotJson, TooMany}
-use Rattle.graph_file.specs.declared.refusals.GraphError.{GraphError}
-use Rattle.graph_file.specs.declared.refusals.Kind.TheVariants.{Tasks}
+use Rattle.graph_drafts.specs.declared.refusals.GraphError.TheVariants.{NotJson, TooMany}
+use Rattle.graph_drafts.specs.declared.refusals.GraphError.{GraphError}
+use Rattle.graph_drafts.specs.declared.refusals.Kind.TheVariants.{Tasks}
 use Rattle.text_ops.specs.Lines.{normal}
 use Rattle.graph_plans.specs.declared.spots.Spot.TheVariants.{File}
 use Rattle.graph_plans.specs.PlanRows.{PlanRows}

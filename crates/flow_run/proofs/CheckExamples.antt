@@ -5,7 +5,7 @@ use Rattle.std.specs.Prelude.{bytes_eq, if◌then◌else◌, Contains}
 use Rattle.std.proofs.lemmas.Option.{none-some}
 use Rattle.graph_plans.specs.PlanRows.{GraphRows, PlanRows, graphs_of}
 use Rattle.graph_plans.specs.declared.spots.Spot.TheVariants.{File}
-use Rattle.graph_file.specs.declared.refusals.GraphError.TheVariants.{NotJson}
+use Rattle.graph_drafts.specs.declared.refusals.GraphError.TheVariants.{NotJson}
 use Rattle.graph_file.specs.PlanText.{PlanText, IsRefused}
 use Rattle.pitfall_check.specs.declared.finding.Finding.{Finding}
 use Rattle.pitfall_check.specs.declared.finding.Finding.TheVariants.{NoSource, Mixed, ManyConditions, StrongCycle, NeverReached}

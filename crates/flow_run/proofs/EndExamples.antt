@@ -15,8 +15,8 @@ use Rattle.graph_plans.specs.PlanRows.{PlanRows}
 use Rattle.task_graph.specs.Sources.{HasNoSource}
 use Rattle.graph_plans.specs.Sources.{NoSourceAnswer}
 use Rattle.graph_plans.specs.declared.spots.Spot.TheVariants.{File, Module, Task}
-use Rattle.graph_file.specs.declared.refusals.GraphError.{GraphError}
-use Rattle.graph_file.specs.declared.refusals.GraphError.TheVariants.{NotJson}
+use Rattle.graph_drafts.specs.declared.refusals.GraphError.{GraphError}
+use Rattle.graph_drafts.specs.declared.refusals.GraphError.TheVariants.{NotJson}
 use Rattle.graph_file.specs.PlanText.{PlanText, IsRefused}
 use Rattle.journal_rules.specs.declared.entry.Entry.{Entry}
 use Rattle.journal_text.specs.JournalText.{IsJournalText}

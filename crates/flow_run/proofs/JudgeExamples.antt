@@ -4,8 +4,8 @@ use Rattle.std.proofs.Common.{◌≡◌, ℕ, ◌*◌, List, [], ◌∷◌, ◌+
 use Rattle.std.specs.Prelude.{bytes_eq, if◌then◌else◌}
 use Rattle.task_graph.specs.NetRows.{NetRows}
 use Rattle.graph_plans.specs.PlanRows.{PlanRows}
-use Rattle.graph_file.specs.declared.refusals.GraphError.{GraphError}
-use Rattle.graph_file.specs.declared.refusals.GraphError.TheVariants.{NotJson}
+use Rattle.graph_drafts.specs.declared.refusals.GraphError.{GraphError}
+use Rattle.graph_drafts.specs.declared.refusals.GraphError.TheVariants.{NotJson}
 use Rattle.graph_file.specs.PlanText.{PlanText, IsRefused}
 use Rattle.journal_rules.specs.Complete.{Complete}
 use Rattle.journal_rules.specs.declared.entry.Cause.TheVariants.{Source}

@@ -3,8 +3,8 @@ use Rattle.std.proofs.Common.{◌≡◌, ◌≢◌, inr, ℕ, zero, suc, ◌+◌
 use Rattle.std.specs.Prelude.{All, IfErr, IsErrAnd, Result, Ok, Err}
 use Rattle.std.proofs.lemmas.List.{take_more}
 use Rattle.std.proofs.lemmas.List.Elements.{All-nil, All-cons}
-use Rattle.graph_file.specs.declared.refusals.GraphError.{GraphError}
-use Rattle.graph_file.specs.declared.refusals.GraphError.TheVariants.{NotJson, BadField, NoSuchName, Repeated, ModuleCycle, TooMany, NoMemory as NoMemoryToRead, BadPipe}
+use Rattle.graph_drafts.specs.declared.refusals.GraphError.{GraphError}
+use Rattle.graph_drafts.specs.declared.refusals.GraphError.TheVariants.{NotJson, BadField, NoSuchName, Repeated, ModuleCycle, TooMany, NoMemory as NoMemoryToRead, BadPipe}
 use Rattle.graph_plans.specs.PlanRows.{PlanRows, IsPlan}
 use Rattle.graph_file.specs.PlanText.{PlanText, IsRefused}
 use Rattle.text_ops.specs.Lines.{normal, is_normal, line_end}

@@ -6,8 +6,8 @@ use Rattle.std.proofs.lemmas.List.{length-append}
 use Rattle.std.proofs.lemmas.List.Elements.{All-from_recursion, All-head}
 use Rattle.outside_io.specs.Sink.{SinkState}
 use Rattle.graph_plans.specs.PlanRows.{PlanRows}
-use Rattle.graph_file.specs.declared.refusals.GraphError.{GraphError}
-use Rattle.graph_file.specs.declared.refusals.GraphError.TheVariants.{NotJson}
+use Rattle.graph_drafts.specs.declared.refusals.GraphError.{GraphError}
+use Rattle.graph_drafts.specs.declared.refusals.GraphError.TheVariants.{NotJson}
 use Rattle.graph_file.specs.PlanText.{PlanText, IsRefused}
 use Rattle.text_tasks.specs.GraphWork.{GraphWork, first_work}
 use Rattle.text_tasks.specs.JobMeaning.{job_plan}

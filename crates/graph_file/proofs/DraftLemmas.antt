@@ -18,13 +18,14 @@ use Rattle.pipe_lines.specs.declared.deferral.DeferRow.{DeferRow}
 use Rattle.pipe_lines.specs.DeferRows.{IsDeferRow, is_deferred}
 use Rattle.graph_plans.specs.Operations.{IsLineOp, IsOp, IsPartSize, IsPipePlan, IsTextOp, IsWord, line_limit, route_limit, word_limit}
 use Rattle.graph_plans.specs.PlanRows.{AllDiffer, IsTextName, maximum_limit}
-use Rattle.graph_file.specs.declared.scopes.Scope.{Scope}
-use Rattle.graph_file.specs.declared.scopes.Scope.TheVariants.{Top, Module as OfModule}
-use Rattle.graph_file.specs.Contents.{is_text}
-use Rattle.graph_file.specs.OpRows.{FileOpRow, reads, runs, does, may_have}
-use Rattle.graph_file.specs.PlanText.{DraftRows, FileRows, TaskText, file_texts, mentioned, mentioned_by_graphs, mentioned_by_tasks}
+use Rattle.graph_drafts.specs.declared.scopes.Scope.{Scope}
+use Rattle.graph_drafts.specs.declared.scopes.Scope.TheVariants.{Top, Module as OfModule}
+use Rattle.graph_drafts.specs.Contents.{is_text}
+use Rattle.graph_drafts.specs.OpRows.{FileOpRow, reads, runs, does, may_have}
+use Rattle.graph_drafts.specs.FileText.{DraftRows, FileRows, TaskText}
+use Rattle.graph_file.specs.PlanText.{file_texts, mentioned, mentioned_by_graphs, mentioned_by_tasks}
 use Rattle.graph_file.specs.inside.Drafts.{IsDraft, IsFile, IsFileOp, IsMaximum}
-use Rattle.graph_file.specs.inside.Fine.{AreFine, AreMade, AreValidSems, IsMade, IsMadeFile, SemText, fits, fits_defers, fits_line_op, fits_lines, fits_max, fits_op, fits_part, fits_pipe, fits_pipe_lines, fits_pipes, fits_target, fits_targets, fits_text_op, fits_token, fits_words, maxima_of}
+use Rattle.graph_drafts.specs.inside.Fine.{AreFine, AreMade, AreValidSems, IsMade, IsMadeFile, SemText, fits, fits_defers, fits_line_op, fits_lines, fits_max, fits_op, fits_part, fits_pipe, fits_pipe_lines, fits_pipes, fits_target, fits_targets, fits_text_op, fits_token, fits_words, maxima_of}
 use Rattle.graph_file.proofs.NameLemmas.{some_place}
 
 -- ---- operations

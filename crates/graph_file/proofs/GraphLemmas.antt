@@ -6,12 +6,13 @@ use Rattle.graph_plans.specs.declared.ops.Op.{Op}
 use Rattle.graph_plans.specs.declared.plans.Graph.{Graph}
 use Rattle.graph_plans.specs.PlanEdges.{IsAmong, edge_row}
 use Rattle.graph_plans.specs.PlanRows.{file_edge_limit, file_task_limit, graph_rows}
-use Rattle.graph_file.specs.declared.draft.Draft.{Draft}
+use Rattle.graph_drafts.specs.declared.draft.Draft.{Draft}
 use Rattle.graph_plans.specs.declared.edges.Edge.{Edge}
 use Rattle.graph_file.specs.declared.numbers.TaskNumbers.{TaskNumbers}
-use Rattle.graph_file.specs.PlanText.{DraftRows, TaskText, edges_from, graph_with, graphs_with, numbered, ops_of, task_names}
+use Rattle.graph_drafts.specs.FileText.{DraftRows, TaskText}
+use Rattle.graph_file.specs.PlanText.{edges_from, graph_with, graphs_with, numbered, ops_of, task_names}
 use Rattle.graph_file.specs.inside.Drafts.{AreReady, IsReady, NamesOnce, net_with}
-use Rattle.graph_file.specs.inside.Reader.{draft_rows}
+use Rattle.graph_drafts.specs.inside.Reading.{draft_rows}
 use Rattle.graph_file.proofs.PlanLemmas.{HasNames-of, edges-count, edges-numbered, names-once, numbered-count, numbered-draft}
 
 module _ (modules texts : List (List ℕ)) (draft : DraftRows) (numbers : List TaskNumbers) (ready : IsReady modules draft numbers) where

@@ -4,8 +4,8 @@ use Rattle.std.proofs.lemmas.Str.{is_utf8-from_IsUtf8, IsUtf8-from_is_utf8}
 use Rattle.std.specs.Str.{IsUtf8, is_utf8}
 use Rattle.serde_json.specs.Data.{Data}
 use Rattle.serde_json.specs.Read.{read}
-use Rattle.graph_file.specs.declared.refusals.GraphError.{GraphError}
-use Rattle.graph_file.specs.declared.refusals.GraphError.TheVariants.{NotJson}
+use Rattle.graph_drafts.specs.declared.refusals.GraphError.{GraphError}
+use Rattle.graph_drafts.specs.declared.refusals.GraphError.TheVariants.{NotJson}
 use Rattle.graph_file.specs.PlanText.{json_in}
 
 pub json_in-ok : (bytes : List ℕ) (d : Data) → IsUtf8 bytes × (read bytes ≡ Some d) → json_in bytes ≡ Ok d
@@ -17,6 +17,3 @@ refused-step false found none = refl
 
 pub json_in-refused : (bytes : List ℕ) → (IsUtf8 bytes → read bytes ≡ None) → json_in bytes ≡ Err NotJson
 json_in-refused bytes none = refused-step (is_utf8 bytes) (read bytes) (λ is. none (IsUtf8-from_is_utf8 bytes is))
-
-pub text_is_utf8 : (text : List ℕ) → IsUtf8 text → is_utf8 text ≡ true
-text_is_utf8 = is_utf8-from_IsUtf8

@@ -1,11 +1,11 @@
 -- The texts that are mentioned, while a loop goes over tasks or graphs.
 use Rattle.std.proofs.Common.{◌≡◌, ℕ, ◌+◌, ◌<◌, ◌≤◌, List, map, length, drop, get_or, refl, sym, ◌∙◌}
 use Rattle.std.proofs.lemmas.List.{drop_all}
-use Rattle.graph_file.specs.declared.draft.Draft.{Draft}
-use Rattle.graph_file.specs.declared.draft.FileTask.{FileTask}
+use Rattle.graph_drafts.specs.declared.draft.Draft.{Draft}
+use Rattle.graph_drafts.specs.declared.draft.FileTask.{FileTask}
 use Rattle.graph_file.specs.PlanText.{mentioned, mentioned_by_graphs, mentioned_by_tasks}
-use Rattle.graph_file.specs.inside.Reader.{draft_rows, file_op_row, task_text}
-use Rattle.graph_file.proofs.WalkLemmas.{next_of}
+use Rattle.graph_drafts.specs.inside.Reading.{draft_rows, file_op_row, task_text}
+use Rattle.graph_drafts.proofs.WalkLemmas.{next_of}
 
 -- the tasks from place i on are still to be looked at
 abbrev pub TasksLeft : List (List ℕ) → List FileTask → ℕ → List (List ℕ) → Type 0

@@ -5,11 +5,11 @@ use Rattle.std.proofs.lemmas.List.{get_or-map, length-map, take_more, take_all, 
 use Rattle.std.proofs.Math.Seq.{drop-cons}
 use Rattle.std.specs.HashMap.{HashMap}
 use Rattle.std.specs.List.{list_any, position_from}
-use Rattle.graph_file.specs.declared.refusals.GraphError.{GraphError}
+use Rattle.graph_drafts.specs.declared.refusals.GraphError.{GraphError}
 use Rattle.graph_file.specs.PlanText.{add_name}
-use Rattle.graph_file.specs.Steps.{walk}
+use Rattle.graph_drafts.specs.Steps.{walk}
 use Rattle.graph_file.specs.inside.Lookups.{HasPlaces, KeepsPlace, place_in}
-use Rattle.graph_file.specs.inside.Reader.{strings}
+use Rattle.graph_drafts.specs.inside.Reading.{strings}
 use Rattle.graph_file.proofs.PlaceLemmas.{HasPlaces-more}
 
 some_from_step : (b : Bool) (i : ℕ) (rest : Option ℕ) (any : Bool) → is_some rest ≡ any → is_some (cond b (Some i) rest) ≡ (b || any)

@@ -8,18 +8,20 @@ use Rattle.std.proofs.lemmas.Option.{option_and_then_some}
 use Rattle.std.proofs.lemmas.Slice.Eq.{bytes_eq-Decides}
 use Rattle.std.specs.HashMap.{HashMap}
 use Rattle.graph_plans.specs.PlanRows.{AllDiffer}
-use Rattle.graph_file.specs.declared.refusals.GraphError.{GraphError}
-use Rattle.graph_file.specs.Contents.{each}
-use Rattle.graph_file.specs.PlanText.{DraftRows, TaskText, names_of_modules, numbers_in, task_names}
-use Rattle.graph_file.specs.declared.draft.Draft.{Draft}
-use Rattle.graph_file.specs.declared.draft.FileDraft.{FileDraft}
-use Rattle.graph_file.specs.declared.draft.FileTask.{FileTask}
-use Rattle.graph_file.specs.Steps.{walk}
+use Rattle.graph_drafts.specs.declared.refusals.GraphError.{GraphError}
+use Rattle.graph_drafts.specs.Contents.{each}
+use Rattle.graph_drafts.specs.FileText.{DraftRows, TaskText}
+use Rattle.graph_file.specs.PlanText.{names_of_modules, numbers_in, task_names}
+use Rattle.graph_drafts.specs.declared.draft.Draft.{Draft}
+use Rattle.graph_drafts.specs.declared.draft.FileDraft.{FileDraft}
+use Rattle.graph_drafts.specs.declared.draft.FileTask.{FileTask}
+use Rattle.graph_drafts.specs.Steps.{walk}
 use Rattle.graph_file.specs.inside.Drafts.{AreIds}
 use Rattle.graph_file.specs.inside.Lookups.{HasPlaces, place_in}
-use Rattle.graph_file.specs.inside.Reader.{draft_rows, file_rows, put_place, task_text}
-use Rattle.graph_file.proofs.BindLemmas.{each_rest}
-use Rattle.graph_file.proofs.EachLemmas.{walk-put_same}
+use Rattle.graph_drafts.specs.inside.Reading.{draft_rows, file_rows, task_text}
+use Rattle.graph_file.specs.inside.Reader.{put_place}
+use Rattle.graph_drafts.proofs.BindLemmas.{each_rest}
+use Rattle.graph_drafts.proofs.EachLemmas.{walk-put_same}
 use Rattle.graph_file.proofs.NameLemmas.{some_place}
 
 each-same : {A B : Type 0} (f g : A → Option B) (xs : List A) → ((x : A) → f x ≡ g x) → each f xs ≡ each g xs

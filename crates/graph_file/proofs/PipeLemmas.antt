@@ -8,14 +8,15 @@ use Rattle.graph_plans.specs.declared.ops.Op.TheVariants.{Input, Read, Text, Mat
 use Rattle.graph_plans.specs.Operations.{HasPipeline}
 use Rattle.graph_plans.specs.PlanRows.{HasPipelines, graphs_of}
 use Rattle.graph_file.specs.declared.numbers.TaskNumbers.{TaskNumbers}
-use Rattle.graph_file.specs.declared.refusals.GraphError.{GraphError}
-use Rattle.graph_file.specs.declared.refusals.GraphError.TheVariants.{BadPipe}
-use Rattle.graph_file.specs.declared.scopes.Scope.{Scope}
-use Rattle.graph_file.specs.Fields.{task_spot}
-use Rattle.graph_file.specs.OpRows.{FileOpRow, reads, runs, does}
-use Rattle.graph_file.specs.PlanText.{DraftRows, FileNumbers, FileRows, TaskText, add_graph_pipelines, add_pipeline, file_op_fault, file_pipelines, file_texts, graph_pipelines, graph_with, graphs_with, names_of_modules, numbered, ops_of, pipe_fault, plan_with}
-use Rattle.graph_file.specs.Steps.{unless, walk}
-use Rattle.graph_file.proofs.BindLemmas.{bind_ok}
+use Rattle.graph_drafts.specs.declared.refusals.GraphError.{GraphError}
+use Rattle.graph_drafts.specs.declared.refusals.GraphError.TheVariants.{BadPipe}
+use Rattle.graph_drafts.specs.declared.scopes.Scope.{Scope}
+use Rattle.graph_drafts.specs.Fields.{task_spot}
+use Rattle.graph_drafts.specs.OpRows.{FileOpRow, reads, runs, does}
+use Rattle.graph_drafts.specs.FileText.{DraftRows, FileRows, TaskText}
+use Rattle.graph_file.specs.PlanText.{FileNumbers, add_graph_pipelines, add_pipeline, file_op_fault, file_pipelines, file_texts, graph_pipelines, graph_with, graphs_with, names_of_modules, numbered, ops_of, pipe_fault, plan_with}
+use Rattle.graph_drafts.specs.Steps.{unless, walk}
+use Rattle.graph_drafts.proofs.BindLemmas.{bind_ok}
 
 -- ---- operations
 

@@ -19,21 +19,22 @@ use Rattle.graph_plans.specs.ModuleUses.{first_on_cycle, modules_run, run_before
 use Rattle.graph_plans.specs.Operations.{IsOp, shape_of}
 use Rattle.graph_plans.specs.PlanEdges.{IsAmong}
 use Rattle.graph_plans.specs.PlanRows.{AllDiffer, GraphRows, IsGraph, IsPlan, PlanRows, file_edge_limit, file_semaphore_limit, file_task_limit, graphs_of, module_limit, module_uses, text_count_limit}
-use Rattle.graph_file.specs.declared.refusals.GraphError.{GraphError}
-use Rattle.graph_file.specs.declared.refusals.GraphError.TheVariants.{ModuleCycle, NoSuchName, Repeated, TooMany}
-use Rattle.graph_file.specs.declared.refusals.Kind.TheVariants.{Tasks, Edges, Semaphores, Modules, Depth, Texts}
+use Rattle.graph_drafts.specs.declared.refusals.GraphError.{GraphError}
+use Rattle.graph_drafts.specs.declared.refusals.GraphError.TheVariants.{ModuleCycle, NoSuchName, Repeated, TooMany}
+use Rattle.graph_drafts.specs.declared.refusals.Kind.TheVariants.{Tasks, Edges, Semaphores, Modules, Depth, Texts}
 use Rattle.graph_file.specs.declared.numbers.TaskNumbers.{TaskNumbers}
-use Rattle.graph_file.specs.declared.scopes.Scope.{Scope}
-use Rattle.graph_file.specs.declared.scopes.Scope.TheVariants.{Module as OfModule}
-use Rattle.graph_file.specs.Contents.{each}
-use Rattle.graph_file.specs.Fields.{graph_spot, sem_spot, task_spot}
-use Rattle.graph_file.specs.OpRows.{FileOpRow, reads, runs, does}
-use Rattle.graph_file.specs.PlanText.{DraftRows, FileNumbers, FileRows, PlanText, TaskNames, TaskText, add_graph_numbers, add_module_name, add_name, add_numbers, add_task_name, edge_to, edge_total, edges_from, file_counts, file_in, file_names, file_numbers, file_pipelines, file_texts, file_uses, graph_names, graph_numbers, graph_with, graphs_with, json_in, names_of_modules, names_of_tasks, nests_too_deep, numbered, numbers_in, ops_of, plan_in, plan_of, plan_with, puts_field, runs_one_of, takes_field, task_names, task_row, task_rows, used_before, used_by_tasks, within_counts, within_limits}
-use Rattle.graph_file.specs.Steps.{passed, unless, walk}
+use Rattle.graph_drafts.specs.declared.scopes.Scope.{Scope}
+use Rattle.graph_drafts.specs.declared.scopes.Scope.TheVariants.{Module as OfModule}
+use Rattle.graph_drafts.specs.Contents.{each}
+use Rattle.graph_drafts.specs.Fields.{graph_spot, sem_spot, task_spot}
+use Rattle.graph_drafts.specs.OpRows.{FileOpRow, reads, runs, does}
+use Rattle.graph_drafts.specs.FileText.{DraftRows, FileRows, TaskNames, TaskText, file_in, puts_field, takes_field}
+use Rattle.graph_file.specs.PlanText.{FileNumbers, PlanText, add_graph_numbers, add_module_name, add_name, add_numbers, add_task_name, edge_to, edge_total, edges_from, file_counts, file_names, file_numbers, file_pipelines, file_texts, file_uses, graph_names, graph_numbers, graph_with, graphs_with, json_in, names_of_modules, names_of_tasks, nests_too_deep, numbered, numbers_in, ops_of, plan_in, plan_of, plan_with, runs_one_of, task_names, task_row, task_rows, used_before, used_by_tasks, within_counts, within_limits}
+use Rattle.graph_drafts.specs.Steps.{passed, unless, walk}
 use Rattle.graph_file.specs.inside.Drafts.{AreReady, IsDraft, IsFile, IsFileOp, IsMaximum, IsReady, IsReadyFile, NamesOnce, net_with}
-use Rattle.graph_file.proofs.BindLemmas.{bind_ok, ok_or_ok, passed-ok}
+use Rattle.graph_drafts.proofs.BindLemmas.{bind_ok, ok_or_ok, passed-ok}
 use Rattle.graph_file.proofs.DraftLemmas.{AllDiffer-push, IsFile-of, IsOp-any, texts-of-file}
-use Rattle.graph_file.proofs.FineLemmas.{file_in-made}
+use Rattle.graph_drafts.proofs.FineLemmas.{file_in-made}
 use Rattle.graph_file.proofs.NetLemmas.{task_rows-length}
 use Rattle.graph_file.proofs.NumberLemmas.{AreIds-of, numbers-within, place}
 use Rattle.graph_file.proofs.PipeLemmas.{pipelines-of}

@@ -2,10 +2,10 @@
 use Rattle.std.proofs.Common.{◌≢◌, ℕ, List, IfErr, IfOk, Result, Ok, Err}
 use Rattle.graph_plans.specs.declared.plans.Plan.{Plan}
 use Rattle.graph_plans.specs.PlanRows.{IsPlan, plan_rows}
-use Rattle.graph_file.specs.declared.refusals.GraphError.{GraphError}
-use Rattle.graph_file.specs.declared.refusals.GraphError.TheVariants.{NoMemory}
+use Rattle.graph_drafts.specs.declared.refusals.GraphError.{GraphError}
+use Rattle.graph_drafts.specs.declared.refusals.GraphError.TheVariants.{NoMemory}
 use Rattle.graph_file.specs.PlanText.{IsRefused, PlanText, read_plan}
-use Rattle.graph_file.specs.inside.Reader.{ReadsAs}
+use Rattle.graph_drafts.specs.inside.Reading.{ReadsAs}
 use Rattle.graph_file.proofs.PlanLemmas.{IsPlan-read}
 
 pub plan-found : (bytes : List ℕ) (r : Result Plan GraphError) → ReadsAs plan_rows r (read_plan bytes) → IfOk r (λ plan. PlanText bytes (plan_rows plan))

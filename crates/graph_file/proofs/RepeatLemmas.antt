@@ -3,20 +3,22 @@ use Rattle.std.proofs.Common.{◌≡◌, ◌≢◌, ℕ, ◌+◌, ◌<◌, List,
 use Rattle.std.proofs.lemmas.List.{get_or-map, length-map, length-take-le, take_more}
 use Rattle.std.specs.Bool.{⊤}
 use Rattle.std.specs.List.{list_any}
-use Rattle.graph_file.specs.declared.draft.Draft.{Draft}
-use Rattle.graph_file.specs.declared.draft.FileDraft.{FileDraft}
-use Rattle.graph_file.specs.declared.draft.FileTask.{FileTask}
-use Rattle.graph_file.specs.declared.scopes.Scope.{Scope}
-use Rattle.graph_file.specs.declared.scopes.Scope.TheVariants.{Module as OfModule}
-use Rattle.graph_file.specs.declared.refusals.GraphError.{GraphError}
-use Rattle.graph_file.specs.declared.refusals.GraphError.TheVariants.{NoMemory, Repeated}
-use Rattle.graph_file.specs.Fields.{graph_spot, sem_spot, task_spot}
+use Rattle.graph_drafts.specs.declared.draft.Draft.{Draft}
+use Rattle.graph_drafts.specs.declared.draft.FileDraft.{FileDraft}
+use Rattle.graph_drafts.specs.declared.draft.FileTask.{FileTask}
+use Rattle.graph_drafts.specs.declared.scopes.Scope.{Scope}
+use Rattle.graph_drafts.specs.declared.scopes.Scope.TheVariants.{Module as OfModule}
+use Rattle.graph_drafts.specs.declared.refusals.GraphError.{GraphError}
+use Rattle.graph_drafts.specs.declared.refusals.GraphError.TheVariants.{NoMemory, Repeated}
+use Rattle.graph_drafts.specs.Fields.{graph_spot, sem_spot, task_spot}
 use Rattle.graph_plans.specs.declared.spots.Spot.{Spot}
-use Rattle.graph_file.specs.PlanText.{TaskNames, add_module_name, add_name, add_task_name, file_names, graph_names, names_of_modules, names_of_tasks, puts_field, takes_field, task_names}
-use Rattle.graph_file.specs.Steps.{◌>>=◌, passed, walk}
-use Rattle.graph_file.specs.inside.Reader.{Leads, draft_rows, file_rows, named_task, once_module, once_or, strings, task_text}
+use Rattle.graph_drafts.specs.FileText.{TaskNames, puts_field, takes_field}
+use Rattle.graph_file.specs.PlanText.{add_module_name, add_name, add_task_name, file_names, graph_names, names_of_modules, names_of_tasks, task_names}
+use Rattle.graph_drafts.specs.Steps.{◌>>=◌, passed, walk}
+use Rattle.graph_drafts.specs.inside.Reading.{Leads, draft_rows, file_rows, named_task, strings, task_text}
+use Rattle.graph_file.specs.inside.Reader.{once_module, once_or}
 use Rattle.graph_file.proofs.NumberLemmas.{names-drafted, names-filed}
-use Rattle.graph_file.proofs.WalkLemmas.{GoesOn, GoesOn-more, GoesOn-refused}
+use Rattle.graph_drafts.proofs.WalkLemmas.{GoesOn, GoesOn-more, GoesOn-refused}
 
 -- the names of tasks, as the code has them
 abbrev pub names_now : List FileTask → List (List ℕ)

@@ -5,9 +5,10 @@ use Rattle.std.proofs.lemmas.List.Folds.{list_any-append}
 use Rattle.std.proofs.lemmas.Cmp.{nat_list_eq_equiv}
 use Rattle.std.specs.Bool.{⊤}
 use Rattle.std.specs.List.{list_any}
-use Rattle.graph_file.specs.Fields.{u32_of}
-use Rattle.graph_file.specs.OpRows.{FileOpRow, reads, runs, does}
-use Rattle.graph_file.specs.PlanText.{DraftRows, FileRows, TaskText, file_texts, mentioned, mentioned_by_graphs, mentioned_by_tasks, number_among}
+use Rattle.graph_drafts.specs.Fields.{u32_of}
+use Rattle.graph_drafts.specs.OpRows.{FileOpRow, reads, runs, does}
+use Rattle.graph_drafts.specs.FileText.{DraftRows, FileRows, TaskText}
+use Rattle.graph_file.specs.PlanText.{file_texts, mentioned, mentioned_by_graphs, mentioned_by_tasks, number_among}
 use Rattle.graph_file.proofs.NameLemmas.{some_place}
 use Rattle.graph_file.proofs.NumberLemmas.{place, place-is}
 

@@ -4,15 +4,16 @@ use Rattle.std.proofs.lemmas.List.{get_or-map, length-map, map-append, take_more
 use Rattle.std.proofs.lemmas.List.Elements.{All-cons, All-head, All-nil, All-tail}
 use Rattle.std.specs.List.{list_any}
 use Rattle.graph_plans.specs.ModuleUses.{has_chain}
-use Rattle.graph_file.specs.declared.draft.Draft.{Draft}
-use Rattle.graph_file.specs.declared.draft.FileDraft.{FileDraft}
-use Rattle.graph_file.specs.declared.draft.FileTask.{FileTask}
+use Rattle.graph_drafts.specs.declared.draft.Draft.{Draft}
+use Rattle.graph_drafts.specs.declared.draft.FileDraft.{FileDraft}
+use Rattle.graph_drafts.specs.declared.draft.FileTask.{FileTask}
 use Rattle.graph_file.specs.declared.numbers.TaskNumbers.{TaskNumbers}
-use Rattle.graph_file.specs.declared.refusals.GraphError.{GraphError}
-use Rattle.graph_file.specs.OpRows.{FileOpRow, reads, runs, does}
-use Rattle.graph_file.specs.Steps.{passed}
-use Rattle.graph_file.specs.PlanText.{DraftRows, FileNumbers, FileRows, TaskText, file_numbers, file_uses, names_of_modules, nests_too_deep, number_among, runs_one_of, used_before, used_by_tasks}
-use Rattle.graph_file.specs.inside.Reader.{draft_rows, file_rows, task_text}
+use Rattle.graph_drafts.specs.declared.refusals.GraphError.{GraphError}
+use Rattle.graph_drafts.specs.OpRows.{FileOpRow, reads, runs, does}
+use Rattle.graph_drafts.specs.Steps.{passed}
+use Rattle.graph_drafts.specs.FileText.{DraftRows, FileRows, TaskText}
+use Rattle.graph_file.specs.PlanText.{FileNumbers, file_numbers, file_uses, names_of_modules, nests_too_deep, number_among, runs_one_of, used_before, used_by_tasks}
+use Rattle.graph_drafts.specs.inside.Reading.{draft_rows, file_rows, task_text}
 use Rattle.graph_file.specs.inside.UseNets.{AreUses}
 use Rattle.graph_file.proofs.PlanLemmas.{AreGraphNumbers, AreNumbered, IsNumberedFile-of, numbered-draft}
 use Rattle.graph_file.proofs.TextLemmas.{number-within}

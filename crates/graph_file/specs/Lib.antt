@@ -1,6 +1,2 @@
-pub mod Steps
-pub mod Contents
-pub mod Fields
-pub mod OpRows
 pub mod PlanText
 pub mod inside

@@ -4,14 +4,13 @@ ghost use Rattle.graph_plans.specs.PlanRows.{graph_rows, plan_rows};
 ghost use Rattle.graph_file.specs.PlanText.{file_texts, graph_with, graphs_with, names_of_modules, numbered, ops_of, plan_with};
 ghost use Rattle.graph_file.specs.inside.Drafts.{AreReady, IsReady, IsReadyFile};
 ghost use Rattle.graph_file.specs.inside.Lookups.{IsIndex};
-ghost use Rattle.graph_file.specs.inside.Reader.{draft_rows, file_op_row, file_rows, numbers_rows, strings, task_text};
+ghost use Rattle.graph_drafts.specs.inside.Reading.{draft_rows, file_op_row, file_rows, strings, task_text};
+ghost use Rattle.graph_file.specs.inside.Reader.{numbers_rows};
 
-use crate::draft::{Draft, FileDraft, FileTask};
-use crate::file_op::FileOp;
 use crate::lookups::{Index, names_of_tasks, number_among};
 use crate::nets::{edges_of, net_with};
 use crate::numbers::{Numbers, TaskNumbers};
-use crate::scopes::u32_of;
+use graph_drafts::{Draft, FileDraft, FileOp, FileTask, u32_of};
 use graph_plans::{Graph, Op, Plan};
 use outside_io::{Bytes, List, NoMemory};
 use std::alloc::Global;

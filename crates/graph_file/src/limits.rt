@@ -3,18 +3,18 @@ ghost use Rattle.std.specs.Prelude.{◌≡◌, ◌<◌, ◌+◌, [], not, nat_le
 ghost use Rattle.graph_plans.specs.ModuleUses.{first_on_cycle};
 ghost use Rattle.graph_plans.specs.PlanRows.{text_count_limit};
 ghost use Rattle.graph_file.specs.PlanText.{edge_total, file_counts, file_numbers, file_texts, file_uses, names_of_modules, nests_too_deep, used_by_tasks, within_counts, within_limits};
-ghost use Rattle.graph_file.specs.Steps.{passed, unless};
+ghost use Rattle.graph_drafts.specs.Steps.{passed, unless};
 ghost use Rattle.graph_file.specs.inside.Counting.{AreCounted, capped};
 ghost use Rattle.graph_file.specs.inside.Lookups.{IsIndex};
-ghost use Rattle.graph_file.specs.inside.Reader.{Reads, file_rows, numbers_rows, strings};
+ghost use Rattle.graph_drafts.specs.inside.Reading.{Reads, file_rows, strings};
+ghost use Rattle.graph_file.specs.inside.Reader.{numbers_rows};
 ghost use Rattle.graph_file.specs.inside.UseNets.{AreUses};
 
 use crate::cycles::first_on_cycle;
-use crate::draft::{Draft, FileDraft};
 use crate::lookups::Index;
 use crate::numbers::{Numbers, TaskNumbers};
-use crate::refusals::{GraphError, Kind};
 use crate::uses::{has_chain, used_by_tasks, uses_of};
+use graph_drafts::{Draft, FileDraft, GraphError, Kind};
 use outside_io::{Bytes, List, NoMemory};
 use std::alloc::Global;
 

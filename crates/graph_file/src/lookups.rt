@@ -2,9 +2,9 @@
 ghost use Rattle.std.specs.Prelude.{◌≡◌, [], IfOk, OnOk, None, is_none, map};
 ghost use Rattle.graph_file.specs.PlanText.{number_among, with_text};
 ghost use Rattle.graph_file.specs.inside.Lookups.{HasPlaces, IsIndex, KeepsPlace, place_in};
-ghost use Rattle.graph_file.specs.inside.Reader.{strings};
+ghost use Rattle.graph_drafts.specs.inside.Reading.{strings};
 
-use crate::draft::{Draft, FileTask};
+use graph_drafts::{Draft, FileTask};
 use outside_io::{List, NoMemory};
 use std::alloc::Global;
 use std::collections::HashMap;

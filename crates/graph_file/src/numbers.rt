@@ -1,17 +1,16 @@
 // The numbers of what tasks name.
 ghost use Rattle.std.specs.Prelude.{◌≡◌, ◌++◌, ◌∷◌, [], codes, map, OnOk};
 ghost use Rattle.graph_file.specs.PlanText.{add_graph_numbers, add_numbers, file_numbers, graph_numbers, names_of_modules, runs_one_of, task_names};
-ghost use Rattle.graph_file.specs.Steps.{passed, walk};
+ghost use Rattle.graph_drafts.specs.Steps.{passed, walk};
 ghost use Rattle.graph_file.specs.inside.Lookups.{HasPlaces, IsIndex};
-ghost use Rattle.graph_file.specs.inside.Reader.{Leads, Reads, ReadsAs, draft_rows, file_op_row, file_rows, numbers_rows, put_place, strings, task_text};
+ghost use Rattle.graph_drafts.specs.inside.Reading.{Leads, Reads, ReadsAs, draft_rows, file_op_row, file_rows, strings, task_text};
+ghost use Rattle.graph_file.specs.inside.Reader.{numbers_rows, put_place};
 
-use crate::bad_fields::no_such_name;
-use crate::draft::{Draft, FileDraft, FileTask};
-use crate::file_op::FileOp;
 use crate::lookups::{Index, Places, names_of_tasks, places_of};
-use crate::refusals::GraphError;
-use crate::scopes::task_spot;
-use crate::tasks::{puts_field, takes_field};
+use graph_drafts::{
+    Draft, FileDraft, FileOp, FileTask, GraphError, no_such_name, puts_field, takes_field,
+    task_spot,
+};
 use graph_plans::Spot;
 use outside_io::{List, NoMemory};
 use std::alloc::Global;

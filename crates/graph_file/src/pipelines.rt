@@ -1,13 +1,10 @@
 // Whether the pipes of tasks are pipelines.
 ghost use Rattle.std.specs.Prelude.{◌≡◌, map};
-ghost use Rattle.graph_file.specs.Steps.{walk};
+ghost use Rattle.graph_drafts.specs.Steps.{walk};
 ghost use Rattle.graph_file.specs.PlanText.{add_graph_pipelines, file_op_fault, file_pipelines, pipe_fault};
-ghost use Rattle.graph_file.specs.inside.Reader.{Reads, draft_rows, file_op_row, file_rows};
+ghost use Rattle.graph_drafts.specs.inside.Reading.{Reads, draft_rows, file_op_row, file_rows};
 
-use crate::draft::{Draft, FileDraft};
-use crate::file_op::FileOp;
-use crate::refusals::GraphError;
-use crate::scopes::task_spot;
+use graph_drafts::{Draft, FileDraft, FileOp, GraphError, task_spot};
 use graph_plans::Op;
 use pipe_lines::{PipeError, spec_fault};
 

@@ -4,11 +4,10 @@ ghost use Rattle.serde_json.specs.Errors.{IsMemory};
 ghost use Rattle.serde_json.specs.View.{view};
 ghost use Rattle.graph_plans.specs.PlanRows.{IsPlan, plan_rows};
 ghost use Rattle.graph_file.specs.PlanText.{IsRefused, PlanText, json_in, read_plan};
-ghost use Rattle.graph_file.specs.inside.Reader.{ReadsAs};
+ghost use Rattle.graph_drafts.specs.inside.Reading.{ReadsAs};
 
-use crate::file::read_file;
-use crate::refusals::GraphError;
 use crate::rules::plan_of;
+use graph_drafts::{GraphError, read_file};
 use graph_plans::Plan;
 use serde_json::{Category, Error, Value};
 use std::alloc::Global;

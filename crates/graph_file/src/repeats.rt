@@ -1,16 +1,16 @@
 // Names that stand twice.
 ghost use Rattle.std.specs.Prelude.{◌≡◌, ℕ, [], IfOk, codes, map};
-ghost use Rattle.graph_file.specs.Fields.{sem_spot};
+ghost use Rattle.graph_drafts.specs.Fields.{sem_spot};
 ghost use Rattle.graph_file.specs.PlanText.{add_module_name, add_name, add_task_name, file_names, graph_names, names_of_modules, task_names};
-ghost use Rattle.graph_file.specs.Steps.{walk};
-ghost use Rattle.graph_file.specs.inside.Reader.{Leads, draft_rows, file_rows, named_task, once_module, once_or, strings, unless_repeated};
+ghost use Rattle.graph_drafts.specs.Steps.{walk};
+ghost use Rattle.graph_drafts.specs.inside.Reading.{Leads, draft_rows, file_rows, named_task, strings};
+ghost use Rattle.graph_file.specs.inside.Reader.{once_module, once_or, unless_repeated};
 
-use crate::bad_fields::repeated;
-use crate::draft::{Draft, FileDraft, FileTask, NamedTask};
 use crate::lookups::keep_place;
-use crate::refusals::GraphError;
-use crate::scopes::{Scope, graph_spot, sem_spot, task_spot};
-use crate::tasks::{puts_field, takes_field};
+use graph_drafts::{
+    Draft, FileDraft, FileTask, GraphError, NamedTask, Scope, graph_spot, puts_field, repeated,
+    sem_spot, takes_field, task_spot,
+};
 use graph_plans::Spot;
 use outside_io::NoMemory;
 use std::alloc::Global;

@@ -2,17 +2,16 @@
 ghost use Rattle.graph_file.specs.PlanText.{plan_of};
 ghost use Rattle.graph_plans.specs.PlanRows.{plan_rows};
 ghost use Rattle.graph_file.specs.inside.Drafts.{IsFile};
-ghost use Rattle.graph_file.specs.inside.Reader.{ReadsAs, file_rows};
+ghost use Rattle.graph_drafts.specs.inside.Reading.{ReadsAs, file_rows};
 
-use crate::draft::FileDraft;
 use crate::graphs::plan_with;
 use crate::limits::check_limits;
 use crate::lookups::{index_of, names_of_graphs};
 use crate::numbers::numbers_of;
 use crate::pipelines::check_pipelines;
-use crate::refusals::GraphError;
 use crate::repeats::check_names;
 use crate::texts::texts_of;
+use graph_drafts::{FileDraft, GraphError};
 use graph_plans::Plan;
 use std::alloc::Global;
 

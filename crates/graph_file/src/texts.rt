@@ -2,11 +2,10 @@
 ghost use Rattle.std.specs.Prelude.{◌≡◌, ◌∷◌, map, IfOk, OnOk};
 ghost use Rattle.graph_file.specs.PlanText.{file_texts, mentioned, mentioned_by_graphs, mentioned_by_tasks};
 ghost use Rattle.graph_file.specs.inside.Lookups.{IsIndex};
-ghost use Rattle.graph_file.specs.inside.Reader.{draft_rows, file_op_row, file_rows, strings, task_text};
+ghost use Rattle.graph_drafts.specs.inside.Reading.{draft_rows, file_op_row, file_rows, strings, task_text};
 
-use crate::draft::{Draft, FileDraft, FileTask};
-use crate::file_op::FileOp;
 use crate::lookups::{Index, index_of, mention};
+use graph_drafts::{Draft, FileDraft, FileOp, FileTask};
 use outside_io::{List, NoMemory};
 use std::alloc::Global;
 

@@ -4,12 +4,11 @@ ghost use Rattle.std.specs.List.{list_any};
 ghost use Rattle.graph_plans.specs.ModuleUses.{has_chain};
 ghost use Rattle.graph_file.specs.PlanText.{file_uses, names_of_modules, used_before, used_by_tasks};
 ghost use Rattle.graph_file.specs.inside.Lookups.{IsIndex};
-ghost use Rattle.graph_file.specs.inside.Reader.{file_op_row, file_rows, strings, task_text};
+ghost use Rattle.graph_drafts.specs.inside.Reading.{file_op_row, file_rows, strings, task_text};
 ghost use Rattle.graph_file.specs.inside.UseNets.{AreUses};
 
-use crate::draft::{FileDraft, FileTask};
-use crate::file_op::FileOp;
 use crate::lookups::{Index, number_among};
+use graph_drafts::{FileDraft, FileOp, FileTask};
 use outside_io::{List, NoMemory};
 use std::alloc::Global;
 

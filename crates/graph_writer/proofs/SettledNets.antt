@@ -10,19 +10,20 @@ use Rattle.task_graph.specs.NetBuilder.{rising}
 use Rattle.graph_plans.specs.declared.ops.Op.{Op}
 use Rattle.graph_plans.specs.PlanRows.{AllDiffer}
 use Rattle.graph_file.specs.declared.numbers.TaskNumbers.{TaskNumbers}
-use Rattle.graph_file.specs.declared.refusals.GraphError.{GraphError}
-use Rattle.graph_file.specs.declared.refusals.GraphError.TheVariants.{Repeated}
-use Rattle.graph_file.specs.declared.scopes.Scope.{Scope}
-use Rattle.graph_file.specs.declared.scopes.Scope.TheVariants.{Top, Module as OfModule}
-use Rattle.graph_file.specs.Contents.{each, is_name}
-use Rattle.graph_file.specs.Fields.{sem_spot, task_spot}
-use Rattle.graph_file.specs.PlanText.{DraftRows, FileNumbers, FileRows, TaskNames, TaskText, add_graph_numbers, add_module_name, add_name, add_numbers, add_task_name, edge_to, edge_total, edges_from, add_graph_pipelines, add_pipeline, file_names, file_numbers, file_pipelines, file_texts, file_uses, graph_names, graph_pipelines, graph_numbers, graph_with, graphs_with, mentioned, mentioned_by_graphs, mentioned_by_tasks, names_of_modules, names_of_tasks, ops_of, numbered, plan_of, plan_with, task_names, task_rows, used_before, used_by_tasks, within_counts, within_limits}
-use Rattle.graph_file.specs.Steps.{◌>>=◌, walk}
+use Rattle.graph_drafts.specs.declared.refusals.GraphError.{GraphError}
+use Rattle.graph_drafts.specs.declared.refusals.GraphError.TheVariants.{Repeated}
+use Rattle.graph_drafts.specs.declared.scopes.Scope.{Scope}
+use Rattle.graph_drafts.specs.declared.scopes.Scope.TheVariants.{Top, Module as OfModule}
+use Rattle.graph_drafts.specs.Contents.{each, is_name}
+use Rattle.graph_drafts.specs.Fields.{sem_spot, task_spot}
+use Rattle.graph_drafts.specs.FileText.{DraftRows, FileRows, TaskNames, TaskText}
+use Rattle.graph_file.specs.PlanText.{FileNumbers, add_graph_numbers, add_module_name, add_name, add_numbers, add_task_name, edge_to, edge_total, edges_from, add_graph_pipelines, add_pipeline, file_names, file_numbers, file_pipelines, file_texts, file_uses, graph_names, graph_pipelines, graph_numbers, graph_with, graphs_with, mentioned, mentioned_by_graphs, mentioned_by_tasks, names_of_modules, names_of_tasks, ops_of, numbered, plan_of, plan_with, task_names, task_rows, used_before, used_by_tasks, within_counts, within_limits}
+use Rattle.graph_drafts.specs.Steps.{◌>>=◌, walk}
 use Rattle.graph_file.specs.inside.Drafts.{AreIds}
-use Rattle.graph_file.specs.inside.Fine.{AreFine, AreMade, AreValidSems, IsMade, IsMadeFile, SemText, names_of_sems}
+use Rattle.graph_drafts.specs.inside.Fine.{AreFine, AreMade, AreValidSems, IsMade, IsMadeFile, SemText, names_of_sems}
 use Rattle.graph_file.proofs.DraftLemmas.{All-true, IsDraft-of}
 use Rattle.graph_file.proofs.NumberLemmas.{called, called-differ, numbers-called, place}
-use Rattle.graph_file.proofs.OpLemmas.{differs}
+use Rattle.graph_drafts.proofs.OpLemmas.{differs}
 use Rattle.graph_file.proofs.PlanLemmas.{AreGraphNumbers, AreNamed, AreNumbered, HasNames, HasNames-of, IsNamedFile, IsNumberedFile, numbered-draft}
 use Rattle.graph_file.proofs.SettledLemmas.{rising-again, rising-ids}
 

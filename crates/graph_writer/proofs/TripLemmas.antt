@@ -6,16 +6,17 @@ use Rattle.task_graph.specs.declared.net.EdgeRow.{EdgeRow}
 use Rattle.graph_plans.specs.declared.ops.Op.TheVariants.{Input, Read, Text, Match, Back, IfMore, IfHas, Route, Spread, Module, Pipe}
 use Rattle.graph_plans.specs.PlanRows.{GraphRows, PlanRows, module_limit, module_names, text_count_limit}
 use Rattle.graph_file.specs.declared.numbers.TaskNumbers.{TaskNumbers}
-use Rattle.graph_file.specs.declared.scopes.Scope.{Scope}
-use Rattle.graph_file.specs.declared.scopes.Scope.TheVariants.{Top, Module as OfModule}
-use Rattle.graph_file.specs.OpRows.{FileOpRow, reads, runs, does}
-use Rattle.graph_file.specs.PlanText.{DraftRows, FileNumbers, FileRows, PlanText, TaskText, edge_to, edges_from, file_in, file_texts, graph_with, graphs_with, json_in, names_of_modules, numbered, ops_of, plan_in, plan_of, plan_with, runs_one_of, task_names, task_rows}
-use Rattle.graph_file.specs.Steps.{◌>>=◌}
+use Rattle.graph_drafts.specs.declared.scopes.Scope.{Scope}
+use Rattle.graph_drafts.specs.declared.scopes.Scope.TheVariants.{Top, Module as OfModule}
+use Rattle.graph_drafts.specs.OpRows.{FileOpRow, reads, runs, does}
+use Rattle.graph_drafts.specs.FileText.{DraftRows, FileRows, TaskText, file_in}
+use Rattle.graph_file.specs.PlanText.{FileNumbers, PlanText, edge_to, edges_from, file_texts, graph_with, graphs_with, json_in, names_of_modules, numbered, ops_of, plan_in, plan_of, plan_with, runs_one_of, task_names, task_rows}
+use Rattle.graph_drafts.specs.Steps.{◌>>=◌}
 use Rattle.graph_writer.specs.WrittenPlan.{file_data, module_data, module_with, op_text, plan_data, sems_from, tasks_from, to_of}
-use Rattle.graph_file.specs.inside.Fine.{AreFine, AreMade, IsMade, IsMadeFile, SemText, fits, maxima_of, names_of_sems}
-use Rattle.graph_file.proofs.BindLemmas.{bind_ok}
+use Rattle.graph_drafts.specs.inside.Fine.{AreFine, AreMade, IsMade, IsMadeFile, SemText, fits, maxima_of, names_of_sems}
+use Rattle.graph_drafts.proofs.BindLemmas.{bind_ok}
 use Rattle.graph_file.proofs.DraftLemmas.{IsFile-of}
-use Rattle.graph_file.proofs.FineLemmas.{file_in-made}
+use Rattle.graph_drafts.proofs.FineLemmas.{file_in-made}
 use Rattle.graph_file.proofs.NumberLemmas.{called, called-numbers}
 use Rattle.graph_file.proofs.PlanLemmas.{AreGraphNumbers, AreNumbered, IsPlanned, IsPlanned-of, IsReadyFile-of, graphs-named, numbered-draft}
 use Rattle.graph_writer.proofs.SettledNets.{settled, settled_file, settled_graphs, settled_names, settled_tasks, settled-fine, settled-planned}

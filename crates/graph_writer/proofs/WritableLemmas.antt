@@ -25,15 +25,16 @@ use Rattle.task_graph.specs.NetRows.{NetRows}
 use Rattle.task_graph.specs.Net.{IsTaskOf}
 use Rattle.task_graph.specs.declared.net.TaskRow.{TaskRow}
 use Rattle.graph_file.specs.declared.numbers.TaskNumbers.{TaskNumbers}
-use Rattle.graph_file.specs.declared.scopes.Scope.{Scope}
-use Rattle.graph_file.specs.declared.scopes.Scope.TheVariants.{Top, Module as OfModule}
-use Rattle.graph_file.specs.Contents.{is_name, is_name_byte, is_text}
-use Rattle.graph_file.specs.OpRows.{FileOpRow, reads, runs, does, may_have}
-use Rattle.graph_file.specs.PlanText.{DraftRows, PlanText, TaskNames, TaskText, file_texts, graph_with, graphs_with, json_in, names_of_modules, numbered, ops_of, plan_in, plan_with, runs_one_of, task_names}
-use Rattle.graph_file.specs.Steps.{◌>>=◌}
+use Rattle.graph_drafts.specs.declared.scopes.Scope.{Scope}
+use Rattle.graph_drafts.specs.declared.scopes.Scope.TheVariants.{Top, Module as OfModule}
+use Rattle.graph_drafts.specs.Contents.{is_name, is_name_byte, is_text}
+use Rattle.graph_drafts.specs.OpRows.{FileOpRow, reads, runs, does, may_have}
+use Rattle.graph_drafts.specs.FileText.{DraftRows, TaskNames, TaskText}
+use Rattle.graph_file.specs.PlanText.{PlanText, file_texts, graph_with, graphs_with, json_in, names_of_modules, numbered, ops_of, plan_in, plan_with, runs_one_of, task_names}
+use Rattle.graph_drafts.specs.Steps.{◌>>=◌}
 use Rattle.graph_writer.specs.WrittenPlan.{OpText, defer_data, each_data, lines_data, pipe_data, pipes_from, module_data, op_text, plan_data, sems_from, sems_named, task_data, tasks_from, text_op_text, to_of}
 use Rattle.graph_file.specs.inside.Drafts.{AreReady, IsReady}
-use Rattle.graph_file.specs.inside.Fine.{AreFine, AreMade, AreValidSems, IsMade, SemText, fits, fits_defers, fits_line_op, fits_part, fits_pipe, fits_pipe_lines, fits_pipes, fits_text_op, fits_words, names_of_sems}
+use Rattle.graph_drafts.specs.inside.Fine.{AreFine, AreMade, AreValidSems, IsMade, SemText, fits, fits_defers, fits_line_op, fits_part, fits_pipe, fits_pipe_lines, fits_pipes, fits_text_op, fits_words, names_of_sems}
 use Rattle.graph_writer.specs.inside.Writer.{HasSems, HasUtf8, HasUtf8Line, HasUtf8Pipes, HasUtf8Word, IsString, IsWritable, IsWritableGraph}
 use Rattle.graph_file.proofs.DraftLemmas.{All-true, IsFile-of}
 use Rattle.graph_file.proofs.PlanLemmas.{AreNumbered, IsGraph-with, IsReadyFile-of, edges-numbered, graphs-named, numbered-draft}

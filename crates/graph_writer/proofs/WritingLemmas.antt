@@ -14,7 +14,7 @@ use Rattle.graph_plans.specs.declared.pipes.LineOp.{LineOp}
 use Rattle.graph_plans.specs.declared.plans.Graph.{Graph}
 use Rattle.graph_plans.specs.PlanRows.{GraphRows, PlanRows, graph_rows, names_of_graphs}
 use Rattle.graph_writer.specs.WrittenPlan.{module_data, op_text, pipe_data, pipes_from, sem_data, sems_from, sems_named, task_data, tasks_from, to_of}
-use Rattle.graph_file.specs.PlanText.{TaskNames}
+use Rattle.graph_drafts.specs.FileText.{TaskNames}
 use Rattle.graph_writer.specs.inside.Writer.{HasSems, IsString, IsWritableGraph, end_name, names_at, no_row}
 
 pub utf8_of : (text : List ℕ) → is_utf8 text ≡ true → IsUtf8 text

@@ -16,16 +16,16 @@ use Rattle.graph_plans.specs.declared.ops.TextOp.{TextOp}
 use Rattle.graph_plans.specs.declared.ops.TextOp.TheVariants.{Pass, Keep, Without, Head, Tail, Skip, Sort, Uniq, Count, Tally}
 use Rattle.graph_plans.specs.declared.spots.Spot.{Spot}
 use Rattle.graph_plans.specs.Operations.{route_limit, word_limit}
-use Rattle.graph_file.specs.declared.scopes.Scope.{Scope}
-use Rattle.graph_file.specs.declared.scopes.Scope.TheVariants.{Top, Module as OfModule}
-use Rattle.graph_file.specs.Contents.{each, is_name, is_object, is_text, listed, name_of, name_list_of, targets_of, whole_of, word_of, words_of}
-use Rattle.graph_file.specs.Fields.{task_spot}
-use Rattle.graph_file.specs.OpRows.{FileOpRow, reads, runs, does, PipeRows, add_defer, add_pipe, line_rows, may_have, op_rows, text_op_in, text_rows}
-use Rattle.graph_file.specs.PlanText.{DraftRows, FileRows, TaskNames, TaskText, add_module, add_semaphore, add_task, empty_draft, file_in, graph_in, module_in, with_semaphore, with_task_text}
-use Rattle.graph_file.specs.Steps.{◌>>=◌, walk}
+use Rattle.graph_drafts.specs.declared.scopes.Scope.{Scope}
+use Rattle.graph_drafts.specs.declared.scopes.Scope.TheVariants.{Top, Module as OfModule}
+use Rattle.graph_drafts.specs.Contents.{each, is_name, is_object, is_text, listed, name_of, name_list_of, targets_of, whole_of, word_of, words_of}
+use Rattle.graph_drafts.specs.Fields.{task_spot}
+use Rattle.graph_drafts.specs.OpRows.{FileOpRow, reads, runs, does, PipeRows, add_defer, add_pipe, line_rows, may_have, op_rows, text_op_in, text_rows}
+use Rattle.graph_drafts.specs.FileText.{DraftRows, FileRows, TaskNames, TaskText, add_module, add_semaphore, add_task, empty_draft, file_in, graph_in, module_in, with_semaphore, with_task_text}
+use Rattle.graph_drafts.specs.Steps.{◌>>=◌, walk}
 use Rattle.graph_writer.specs.WrittenPlan.{OpText, defer_data, each_data, file_data, lines_data, pipe_data, pipes_from, module_with, op_text, sem_data, strings_data, task_data, text_op_text, with_field}
-use Rattle.graph_file.specs.inside.Fine.{AreFine, AreMade, AreValidSems, IsMade, IsMadeFile, IsValidSem, SemText, fits, fits_defers, fits_line_op, fits_op, fits_part, fits_pipe_lines, fits_pipes, fits_target, fits_targets, fits_text_op, fits_token, fits_words, maxima_of, names_of_sems}
-use Rattle.graph_file.proofs.FineLemmas.{with_sems_more, with_tasks}
+use Rattle.graph_drafts.specs.inside.Fine.{AreFine, AreMade, AreValidSems, IsMade, IsMadeFile, IsValidSem, SemText, fits, fits_defers, fits_line_op, fits_op, fits_part, fits_pipe_lines, fits_pipes, fits_target, fits_targets, fits_text_op, fits_token, fits_words, maxima_of, names_of_sems}
+use Rattle.graph_drafts.proofs.FineLemmas.{with_sems_more, with_tasks}
 
 listed-items_of : (ds : List Data) → listed (items_of ds) ≡ ds
 listed-items_of [] = refl

@@ -14,7 +14,7 @@ use Rattle.graph_plans.specs.declared.pipes.LineOp.TheVariants.{Text as LineText
 use Rattle.graph_plans.specs.declared.pipes.PipePlan.{PipePlan}
 use Rattle.graph_plans.specs.PlanRows.{GraphRows, PlanRows, module_names}
 use Rattle.pipe_lines.specs.declared.deferral.DeferRow.{DeferRow}
-use Rattle.graph_file.specs.PlanText.{TaskNames}
+use Rattle.graph_drafts.specs.FileText.{TaskNames}
 
 -- the name of an operation, and its own fields
 pub record OpText : Type 0 where

@@ -6,8 +6,9 @@ use Rattle.graph_plans.specs.declared.ops.Op.{Op}
 use Rattle.graph_plans.specs.Operations.{IsOp}
 use Rattle.graph_plans.specs.PlanRows.{IsTextName, file_edge_limit, file_semaphore_limit, file_task_limit, maximum_limit}
 use Rattle.graph_file.specs.declared.numbers.TaskNumbers.{TaskNumbers}
-use Rattle.graph_file.specs.OpRows.{FileOpRow, reads, runs, does}
-use Rattle.graph_file.specs.PlanText.{DraftRows, FileNumbers, FileRows, TaskText, edge_total, graph_names, graph_numbers, names_of_modules, task_names, task_rows}
+use Rattle.graph_drafts.specs.OpRows.{FileOpRow, reads, runs, does}
+use Rattle.graph_drafts.specs.FileText.{DraftRows, FileRows, TaskText}
+use Rattle.graph_file.specs.PlanText.{FileNumbers, edge_total, graph_names, graph_numbers, names_of_modules, task_names, task_rows}
 
 -- a maximum that a semaphore may have
 pub record IsMaximum (max : ℕ) : Type 0 where

@@ -15,7 +15,7 @@ use Rattle.graph_plans.specs.declared.pipes.PipePlan.{PipePlan}
 use Rattle.graph_plans.specs.PlanEdges.{IsAmong}
 use Rattle.graph_plans.specs.PlanRows.{GraphRows, PlanRows, file_task_limit, module_names}
 use Rattle.graph_writer.specs.declared.op_writer.WrittenOp.{WrittenOp}
-use Rattle.graph_file.specs.PlanText.{TaskNames}
+use Rattle.graph_drafts.specs.FileText.{TaskNames}
 use Rattle.graph_writer.specs.WrittenPlan.{OpText, sems_named, to_of}
 
 -- what is written as a string is UTF-8

@@ -2,7 +2,7 @@ use Rattle.std.proofs.Common.{false, All, ◌≡◌, sym, subst}
 use Rattle.task_graph.specs.NetRows.{NetRows}
 use Rattle.task_graph.specs.declared.net.EdgeRow.{EdgeRow}
 use Rattle.graph_file.specs.inside.UseNets.{IsFirstOnCycle}
-use Rattle.graph_file.proofs.BindLemmas.{if-ok}
+use Rattle.graph_drafts.proofs.BindLemmas.{if-ok}
 use Rattle.graph_file.proofs.CycleLemmas.{first-found, without-tokens}
 use Rattle.graph_file.proofs.cycles.first_on_cycle.Goals as goal
 

@@ -1,5 +1,5 @@
 use Rattle.std.proofs.Common.{◌≡◌, take}
-use Rattle.graph_file.specs.inside.Reader.{strings}
+use Rattle.graph_drafts.specs.inside.Reading.{strings}
 use Rattle.graph_file.proofs.graphs.copied_names.Given as goal
 
 abbrev pub invariant-loop-name : goal.invariant-loop-name

@@ -1,10 +1,11 @@
 use Rattle.std.proofs.Common.{◌≡◌, ℕ, List, length, map, All, refl, sym, subst, ap, ◌∙◌}
 use Rattle.graph_plans.specs.declared.ops.Op.{Op}
 use Rattle.graph_plans.specs.PlanEdges.{IsAmong, edge_row}
-use Rattle.graph_file.specs.PlanText.{DraftRows, edges_from}
+use Rattle.graph_drafts.specs.FileText.{DraftRows}
+use Rattle.graph_file.specs.PlanText.{edges_from}
 use Rattle.graph_file.specs.inside.Drafts.{NamesOnce}
-use Rattle.graph_file.specs.inside.Reader.{draft_rows, strings}
-use Rattle.graph_file.proofs.BindLemmas.{if-ok}
+use Rattle.graph_drafts.specs.inside.Reading.{draft_rows, strings}
+use Rattle.graph_drafts.proofs.BindLemmas.{if-ok}
 use Rattle.graph_file.proofs.GraphLemmas.{graph-made, ready-among, ready-each, ready-edges, ready-units}
 use Rattle.graph_file.proofs.NumberLemmas.{names-drafted}
 use Rattle.graph_file.proofs.graphs.graph_with.Goals as goal

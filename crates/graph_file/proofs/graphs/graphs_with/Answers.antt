@@ -3,7 +3,7 @@ use Rattle.std.proofs.lemmas.List.{length-map, length_push}
 use Rattle.std.proofs.lemmas.Iterator.Adapters.{YieldsList-from_vec}
 use Rattle.std.proofs.lemmas.Iterator.Consumers.{YieldsList-turn, YieldsList-end}
 use Rattle.std.specs.Vec.Iter.{into_iter_len}
-use Rattle.graph_file.specs.inside.Reader.{draft_rows, strings}
+use Rattle.graph_drafts.specs.inside.Reading.{draft_rows, strings}
 use Rattle.graph_file.proofs.GraphLemmas.{graphs-end, graphs-more, ready-item, ready-length}
 use Rattle.graph_file.proofs.graphs.graphs_with.Goals as goal
 

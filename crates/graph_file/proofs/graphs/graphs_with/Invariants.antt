@@ -1,7 +1,7 @@
 use Rattle.std.proofs.Common.{◌≡◌, length, map, take}
 use Rattle.graph_plans.specs.PlanRows.{graph_rows}
 use Rattle.graph_file.specs.PlanText.{graphs_with}
-use Rattle.graph_file.specs.inside.Reader.{draft_rows, strings}
+use Rattle.graph_drafts.specs.inside.Reading.{draft_rows, strings}
 use Rattle.graph_file.proofs.graphs.graphs_with.Given as goal
 
 abbrev pub invariant-loop-draft : goal.invariant-loop-draft

@@ -1,7 +1,7 @@
 use Rattle.std.proofs.Common.{◌∙◌}
-use Rattle.graph_file.specs.declared.refusals.GraphError.TheVariants.{TooMany}
-use Rattle.graph_file.specs.declared.refusals.Kind.TheVariants.{Depth}
-use Rattle.graph_file.specs.inside.Reader.{file_rows, strings}
+use Rattle.graph_drafts.specs.declared.refusals.GraphError.TheVariants.{TooMany}
+use Rattle.graph_drafts.specs.declared.refusals.Kind.TheVariants.{Depth}
+use Rattle.graph_drafts.specs.inside.Reading.{file_rows, strings}
 use Rattle.graph_file.proofs.UseLemmas.{depth-found, depth-passed, depth-refused, used-shown}
 use Rattle.graph_file.proofs.limits.check_depth.Goals as goal
 

@@ -1,6 +1,7 @@
 use Rattle.std.proofs.Common.{◌∙◌}
 use Rattle.std.proofs.lemmas.List.{length-map}
-use Rattle.graph_file.specs.inside.Reader.{draft_rows, file_rows, numbers_rows}
+use Rattle.graph_drafts.specs.inside.Reading.{draft_rows, file_rows}
+use Rattle.graph_file.specs.inside.Reader.{numbers_rows}
 use Rattle.graph_file.proofs.PlanLemmas.{IsNumberedFile-of, graphs-count}
 use Rattle.graph_file.proofs.UseLemmas.{AreUses-of, top-used}
 use Rattle.graph_file.specs.PlanText.{names_of_modules}

@@ -1,7 +1,7 @@
 use Rattle.std.proofs.Common.{map, take}
 use Rattle.graph_file.specs.PlanText.{file_counts}
 use Rattle.graph_file.specs.inside.Counting.{AreCounted}
-use Rattle.graph_file.specs.inside.Reader.{draft_rows}
+use Rattle.graph_drafts.specs.inside.Reading.{draft_rows}
 use Rattle.graph_file.proofs.limits.counts_of.Given as goal
 
 abbrev pub invariant-loop-place : goal.invariant-loop-place

@@ -1,8 +1,8 @@
 use Rattle.std.proofs.Common.{◌≡◌, ℕ, zero, suc, ◌<◌, List, [], ◌∷◌, length, map, get_or, refl, sym, ap, subst, ◌∙◌, arith}
 use Rattle.std.specs.Prelude.{IfOk, slice_index_or}
-use Rattle.graph_file.specs.PlanText.{DraftRows}
-use Rattle.graph_file.specs.declared.draft.Draft.{Draft}
-use Rattle.graph_file.specs.inside.Reader.{draft_rows}
+use Rattle.graph_drafts.specs.FileText.{DraftRows}
+use Rattle.graph_drafts.specs.declared.draft.Draft.{Draft}
+use Rattle.graph_drafts.specs.inside.Reading.{draft_rows}
 use Rattle.graph_file.proofs.limits.module_name.Goals as goal
 
 -- the name of the module of a number

@@ -1,6 +1,6 @@
 use Rattle.std.proofs.Common.{[], ◌∷◌, sym, ap, ◌∙◌}
 use Rattle.std.proofs.lemmas.List.{length-map, map-append}
-use Rattle.graph_file.specs.inside.Reader.{strings}
+use Rattle.graph_drafts.specs.inside.Reading.{strings}
 use Rattle.graph_file.proofs.PlaceLemmas.{HasPlaces-snoc}
 use Rattle.graph_file.proofs.lookups.mention.Goals as goal
 

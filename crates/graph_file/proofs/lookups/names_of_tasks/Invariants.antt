@@ -1,6 +1,6 @@
 use Rattle.std.proofs.Common.{◌≡◌, map, take}
-use Rattle.graph_file.specs.declared.draft.FileTask.{FileTask}
-use Rattle.graph_file.specs.inside.Reader.{strings}
+use Rattle.graph_drafts.specs.declared.draft.FileTask.{FileTask}
+use Rattle.graph_drafts.specs.inside.Reading.{strings}
 use Rattle.graph_file.proofs.lookups.names_of_tasks.Given as goal
 
 abbrev pub invariant-loop-task : goal.invariant-loop-task

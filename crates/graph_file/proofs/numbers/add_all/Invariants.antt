@@ -1,6 +1,6 @@
 use Rattle.graph_file.specs.PlanText.{add_numbers}
-use Rattle.graph_file.specs.inside.Reader.{draft_rows, strings, task_text}
-use Rattle.graph_file.proofs.WalkLemmas.{GoesOn}
+use Rattle.graph_drafts.specs.inside.Reading.{draft_rows, strings, task_text}
+use Rattle.graph_drafts.proofs.WalkLemmas.{GoesOn}
 use Rattle.graph_file.proofs.numbers.add_all.Given as goal
 
 abbrev pub invariant-loop-task : goal.invariant-loop-task

@@ -1,6 +1,6 @@
 use Rattle.graph_file.specs.PlanText.{add_graph_numbers}
-use Rattle.graph_file.specs.inside.Reader.{draft_rows, strings}
-use Rattle.graph_file.proofs.WalkLemmas.{GoesOn-more, GoesOn-refused}
+use Rattle.graph_drafts.specs.inside.Reading.{draft_rows, strings}
+use Rattle.graph_drafts.proofs.WalkLemmas.{GoesOn-more, GoesOn-refused}
 use Rattle.graph_file.proofs.numbers.add_graphs.Goals as goal
 
 pub returns-in-Err : goal.returns-in-Err

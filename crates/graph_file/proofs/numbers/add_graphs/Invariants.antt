@@ -1,6 +1,6 @@
 use Rattle.graph_file.specs.PlanText.{add_graph_numbers}
-use Rattle.graph_file.specs.inside.Reader.{draft_rows, strings}
-use Rattle.graph_file.proofs.WalkLemmas.{GoesOn}
+use Rattle.graph_drafts.specs.inside.Reading.{draft_rows, strings}
+use Rattle.graph_drafts.proofs.WalkLemmas.{GoesOn}
 use Rattle.graph_file.proofs.numbers.add_graphs.Given as goal
 
 abbrev pub invariant-loop-draft : goal.invariant-loop-draft

@@ -1,7 +1,7 @@
 use Rattle.std.proofs.Common.{[]}
-use Rattle.graph_file.specs.declared.refusals.GraphError.TheVariants.{NoSuchName}
+use Rattle.graph_drafts.specs.declared.refusals.GraphError.TheVariants.{NoSuchName}
 use Rattle.graph_file.specs.inside.Reader.{put_place}
-use Rattle.graph_file.proofs.WalkLemmas.{GoesOn}
+use Rattle.graph_drafts.proofs.WalkLemmas.{GoesOn}
 use Rattle.graph_file.proofs.numbers.found_in.Given as goal
 
 abbrev pub invariant-loop-name : goal.invariant-loop-name

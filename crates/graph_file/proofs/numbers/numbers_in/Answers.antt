@@ -2,7 +2,7 @@ use Rattle.std.proofs.Common.{◌≡◌, ap, ◌∙◌}
 use Rattle.std.specs.List.{position}
 use Rattle.std.specs.Str.{bytes_eq}
 use Rattle.graph_file.specs.PlanText.{task_names}
-use Rattle.graph_file.specs.inside.Reader.{draft_rows, strings}
+use Rattle.graph_drafts.specs.inside.Reading.{draft_rows, strings}
 use Rattle.graph_file.proofs.NumberLemmas.{names-drafted}
 use Rattle.graph_file.proofs.numbers.numbers_in.Goals as goal
 

@@ -1,6 +1,6 @@
 use Rattle.std.proofs.Common.{is_some, sym, ap, ◌∙◌}
 use Rattle.graph_file.specs.PlanText.{runs_one_of}
-use Rattle.graph_file.specs.inside.Reader.{file_op_row, strings}
+use Rattle.graph_drafts.specs.inside.Reading.{file_op_row, strings}
 use Rattle.graph_file.proofs.numbers.runs_one_of.Goals as goal
 
 pub returns-in-Runs : goal.returns-in-Runs

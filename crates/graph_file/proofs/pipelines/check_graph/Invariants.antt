@@ -1,6 +1,6 @@
 use Rattle.graph_file.specs.PlanText.{add_pipeline}
-use Rattle.graph_file.specs.inside.Reader.{task_text}
-use Rattle.graph_file.proofs.WalkLemmas.{GoesOn}
+use Rattle.graph_drafts.specs.inside.Reading.{task_text}
+use Rattle.graph_drafts.proofs.WalkLemmas.{GoesOn}
 use Rattle.graph_file.proofs.pipelines.check_graph.Given as goal
 
 abbrev pub invariant-loop-task : goal.invariant-loop-task

@@ -1,5 +1,5 @@
 use Rattle.std.proofs.Common.{ap}
-use Rattle.graph_file.specs.inside.Reader.{strings}
+use Rattle.graph_drafts.specs.inside.Reading.{strings}
 use Rattle.graph_file.proofs.RepeatLemmas.{graph-checked}
 use Rattle.graph_file.proofs.repeats.check_graph.Goals as goal
 

@@ -1,9 +1,9 @@
 use Rattle.std.proofs.Common.{[], take}
 use Rattle.graph_file.specs.PlanText.{add_module_name}
 use Rattle.graph_file.specs.inside.Lookups.{HasPlaces}
-use Rattle.graph_file.specs.inside.Reader.{draft_rows}
+use Rattle.graph_drafts.specs.inside.Reading.{draft_rows}
 use Rattle.graph_file.proofs.RepeatLemmas.{graph_names_now}
-use Rattle.graph_file.proofs.WalkLemmas.{GoesOn}
+use Rattle.graph_drafts.proofs.WalkLemmas.{GoesOn}
 use Rattle.graph_file.proofs.repeats.check_modules.Given as goal
 
 abbrev pub invariant-loop-place : goal.invariant-loop-place

@@ -1,6 +1,6 @@
 use Rattle.std.proofs.Common.{◌≡◌, true, rules, refl}
-use Rattle.graph_file.specs.PlanText.{puts_field}
-use Rattle.graph_file.specs.inside.Reader.{named_task}
+use Rattle.graph_drafts.specs.FileText.{puts_field}
+use Rattle.graph_drafts.specs.inside.Reading.{named_task}
 use Rattle.graph_file.proofs.RepeatLemmas.{once-put, once-took}
 use Rattle.graph_file.proofs.repeats.check_task.Goals as goal
 

@@ -2,7 +2,7 @@ use Rattle.std.proofs.Common.{[], take}
 use Rattle.graph_file.specs.PlanText.{add_task_name}
 use Rattle.graph_file.specs.inside.Lookups.{HasPlaces}
 use Rattle.graph_file.proofs.RepeatLemmas.{file_names_of, names_now}
-use Rattle.graph_file.proofs.WalkLemmas.{GoesOn}
+use Rattle.graph_drafts.proofs.WalkLemmas.{GoesOn}
 use Rattle.graph_file.proofs.repeats.check_tasks.Given as goal
 
 abbrev pub invariant-loop-place : goal.invariant-loop-place

@@ -1,6 +1,6 @@
 use Rattle.std.proofs.Common.{◌≡◌, ℕ, true, false, List, [], get_or, take, Bor, rules}
 use Rattle.std.proofs.lemmas.List.{get_or_default}
-use Rattle.graph_file.specs.inside.Reader.{strings}
+use Rattle.graph_drafts.specs.inside.Reading.{strings}
 use Rattle.graph_file.proofs.NameLemmas.{HasPlaces-string, HasWalked-more, HasWalked-refused, new-name, string-at, string-within}
 use Rattle.graph_file.proofs.repeats.first_repeated.Goals as goal
 

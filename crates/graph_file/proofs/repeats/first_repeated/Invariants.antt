@@ -1,6 +1,6 @@
 use Rattle.std.proofs.Common.{take}
 use Rattle.graph_file.specs.inside.Lookups.{HasPlaces}
-use Rattle.graph_file.specs.inside.Reader.{strings}
+use Rattle.graph_drafts.specs.inside.Reading.{strings}
 use Rattle.graph_file.proofs.NameLemmas.{HasWalked}
 use Rattle.graph_file.proofs.repeats.first_repeated.Given as goal
 

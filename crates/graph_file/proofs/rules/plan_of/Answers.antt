@@ -1,6 +1,7 @@
 use Rattle.std.proofs.Common.{◌∙◌}
 use Rattle.graph_file.specs.PlanText.{names_of_modules}
-use Rattle.graph_file.specs.inside.Reader.{file_rows, numbers_rows}
+use Rattle.graph_drafts.specs.inside.Reading.{file_rows}
+use Rattle.graph_file.specs.inside.Reader.{numbers_rows}
 use Rattle.graph_file.proofs.NumberLemmas.{names-filed}
 use Rattle.graph_file.proofs.PlanLemmas.{ready-file}
 use Rattle.graph_file.proofs.rules.plan_of.Goals as goal

@@ -1,5 +1,5 @@
 use Rattle.graph_file.specs.inside.Lookups.{IsIndex}
-use Rattle.graph_file.specs.inside.Reader.{strings}
+use Rattle.graph_drafts.specs.inside.Reading.{strings}
 use Rattle.graph_file.proofs.MentionLemmas.{TasksLeft}
 use Rattle.graph_file.proofs.texts.mention_tasks.Given as goal
 

@@ -1,4 +1,4 @@
-use Rattle.graph_file.specs.inside.Reader.{strings}
+use Rattle.graph_drafts.specs.inside.Reading.{strings}
 use Rattle.graph_file.proofs.UseLemmas.{used-more}
 use Rattle.graph_file.proofs.uses.used_by_tasks.Goals as goal
 

@@ -1,6 +1,6 @@
 use Rattle.std.proofs.Common.{◌≡◌, map, take}
 use Rattle.graph_file.specs.PlanText.{used_by_tasks}
-use Rattle.graph_file.specs.inside.Reader.{strings, task_text}
+use Rattle.graph_drafts.specs.inside.Reading.{strings, task_text}
 use Rattle.graph_file.proofs.uses.used_by_tasks.Given as goal
 
 abbrev pub invariant-loop-task : goal.invariant-loop-task

@@ -1,8 +1,8 @@
 use Rattle.std.proofs.Common.{◌∙◌, map, ap}
 use Rattle.std.proofs.lemmas.List.{take_all}
-use Rattle.graph_file.specs.declared.draft.Draft.{Draft}
+use Rattle.graph_drafts.specs.declared.draft.Draft.{Draft}
 use Rattle.graph_file.specs.PlanText.{used_by_tasks}
-use Rattle.graph_file.specs.inside.Reader.{draft_rows, strings}
+use Rattle.graph_drafts.specs.inside.Reading.{draft_rows, strings}
 use Rattle.graph_file.proofs.UseLemmas.{uses-shown}
 use Rattle.graph_file.proofs.uses.uses_of.Goals as goal
 

@@ -1,7 +1,7 @@
 use Rattle.std.proofs.Common.{◌≡◌, map, take}
-use Rattle.graph_file.specs.declared.draft.Draft.{Draft}
+use Rattle.graph_drafts.specs.declared.draft.Draft.{Draft}
 use Rattle.graph_file.specs.PlanText.{used_by_tasks}
-use Rattle.graph_file.specs.inside.Reader.{draft_rows, strings}
+use Rattle.graph_drafts.specs.inside.Reading.{draft_rows, strings}
 use Rattle.graph_file.proofs.uses.uses_of.Given as goal
 
 abbrev pub invariant-loop-draft : goal.invariant-loop-draft

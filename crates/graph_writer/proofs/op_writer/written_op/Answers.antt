@@ -4,7 +4,7 @@ use Rattle.graph_plans.specs.PlanRows.{graph_rows, names_of_graphs}
 use Rattle.std.proofs.Common.{map}
 use Rattle.graph_writer.specs.WrittenPlan.{op_text, with_field}
 use Rattle.graph_writer.specs.inside.Writer.{HasUtf8, IsString}
-use Rattle.graph_file.proofs.BindLemmas.{if-ok}
+use Rattle.graph_drafts.proofs.BindLemmas.{if-ok}
 use Rattle.graph_writer.proofs.WritingLemmas.{name-at, names-count}
 use Rattle.graph_writer.proofs.op_writer.written_op.Goals as goal
 

@@ -2,7 +2,7 @@ use Rattle.std.proofs.Common.{ap, ◌∙◌}
 use Rattle.serde_json.specs.View.{view}
 use Rattle.graph_file.specs.PlanText.{json_in}
 use Rattle.graph_file.proofs.JsonLemmas.{json_in-ok}
-use Rattle.graph_file.proofs.BindLemmas.{if-ok}
+use Rattle.graph_drafts.proofs.BindLemmas.{if-ok}
 use Rattle.graph_writer.proofs.writer.file_bytes.Goals as goal
 
 pub returns-clause-reads_back : goal.returns-clause-reads_back

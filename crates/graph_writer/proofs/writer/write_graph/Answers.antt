@@ -1,6 +1,6 @@
 use Rattle.serde_json.specs.View.{view}
 use Rattle.graph_plans.specs.PlanRows.{plan_rows}
-use Rattle.graph_file.proofs.BindLemmas.{if-ok}
+use Rattle.graph_drafts.proofs.BindLemmas.{if-ok}
 use Rattle.graph_writer.proofs.WritableLemmas.{plan-shallow, plan-whole, stands-for, writable}
 use Rattle.graph_writer.proofs.writer.write_graph.Goals as goal
 

@@ -1,0 +1,9 @@
+pub mod ContentLemmas
+pub mod BindLemmas
+pub mod EachLemmas
+pub mod FieldLemmas
+pub mod FineLemmas
+pub mod OpLemmas
+pub mod TaskLemmas
+pub mod WalkLemmas
+pub mod WordLemmas

@@ -1,9 +1,0 @@
-use Rattle.std.proofs.Common.{map}
-use Rattle.serde_json.specs.View.{view}
-use Rattle.graph_file.proofs.WordLemmas.{ReadsAs-names}
-use Rattle.graph_file.proofs.fields.read_names.Goals as goal
-
-pub returns : goal.returns
-returns c =
-    ReadsAs-names c.args.spot c.args.field.now (view c.args.object.now) (view c.in-Some.list.now) (map view c.in-Some-list_of.items.now) c.listed_names.result
-    c.in-Some.ensures c.in-Some-list_of.ensures c.listed_names.ensures

@@ -1,8 +1,0 @@
-use Rattle.std.proofs.Common.{[]}
-use Rattle.serde_json.specs.View.{view}
-use Rattle.graph_file.specs.OpRows.{add_defer}
-use Rattle.graph_file.proofs.WalkLemmas.{GoesOn}
-use Rattle.graph_file.proofs.pipes.listed_defers.Given as goal
-
-abbrev pub invariant-loop-item : goal.invariant-loop-item
-invariant-loop-item l = GoesOn view (add_defer l.spot) [] l.items l.item-index l.rows

@@ -1,7 +1,0 @@
-use Rattle.serde_json.specs.View.{view}
-use Rattle.graph_file.specs.inside.Reader.{add_task_steps, draft_rows}
-use Rattle.graph_file.proofs.WalkLemmas.{GoesOn}
-use Rattle.graph_file.proofs.tasks.read_tasks.Given as goal
-
-abbrev pub invariant-loop-task : goal.invariant-loop-task
-invariant-loop-task l = GoesOn view add_task_steps (draft_rows l.fn.draft) l.tasks l.task-index (draft_rows l.draft)
