@@ -1,5 +1,5 @@
 -- The graphs of a file as it has them, one field after another, and else the first refusal.
-use Rattle.std.specs.Prelude.{ℕ, ◌+◌, List, [], ◌∷◌, ◌++◌, length, ◌==◌, Result, Ok, if◌then◌else◌, codes}
+use Rattle.std.specs.Prelude.{ℕ, List, [], ◌∷◌, ◌++◌, length, ◌==◌, Result, Ok, if◌then◌else◌, codes}
 use Rattle.serde_json.specs.Data.{Data}
 use Rattle.graph_plans.specs.declared.spots.Spot.TheVariants.{File}
 use Rattle.graph_plans.specs.PlanRows.{maximum_limit}

@@ -1,5 +1,5 @@
 -- What holds of the semaphores and tasks of each file, and what the code has of a net in the making.
-use Rattle.std.specs.Prelude.{◌≡◌, ◌≢◌, ℕ, ◌<◌, ◌≤◌, false, List, [], ◌∷◌, length, map, All, AllPairs, Ok, ⊤}
+use Rattle.std.specs.Prelude.{◌≡◌, ◌≢◌, ℕ, ◌<◌, ◌≤◌, List, [], ◌∷◌, length, All, AllPairs, Ok, ⊤}
 use Rattle.task_graph.specs.NetRows.{NetRows}
 use Rattle.task_graph.specs.declared.net.EdgeRow.{EdgeRow}
 use Rattle.graph_plans.specs.declared.ops.Op.{Op}
