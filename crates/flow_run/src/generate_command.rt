@@ -167,7 +167,11 @@ fn summary_of(alloc: Global, layers: u64, run: &FrameRun<TextJob>) -> Result<Byt
     add_number_line(&mut summary, b"tasks ", tasks as u64)?;
     add_number_line(&mut summary, b"starts ", starts(run))?;
     add_number_line(&mut summary, b"inner starts ", inner_starts(run))?;
-    add_number_line(&mut summary, b"sum lines ", lines_of_last(&ends, values, sum))?;
+    add_number_line(
+        &mut summary,
+        b"sum lines ",
+        lines_of_last(&ends, values, sum),
+    )?;
     add_number_line(
         &mut summary,
         b"done lines ",
