@@ -15,7 +15,7 @@ from spec_files import CRATES, definitions_in, imported, name_of, words
 CLAIM = re.compile(r"^\s*(?:pub )?([a-z_][a-z0-9_-]*) : (.*)$")
 CLAUSE = re.compile(r"ensures ([a-z_0-9]+) \{((?:[^{}]|\{[^{}]*\})*)\}")
 # Crates whose definitions are the claims' own nets and journals, or serve tests alone.
-EXAMPLES = ("claims", "test_jobs")
+EXAMPLES = ("claims", "library_tour", "test_jobs")
 # The definitions without a claim, by the reason.
 UNCLAIMED = {
     "what a law says of every run, where no run can fail it; the law's proof ties it": (

@@ -1,0 +1,2 @@
+pub mod SumCrossing
+pub mod SumLemmas
