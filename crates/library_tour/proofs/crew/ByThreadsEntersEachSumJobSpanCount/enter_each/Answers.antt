@@ -1,5 +1,5 @@
 use denote.Exit.{no}
-use denote.Param.Send.{IsSync, param_send, arg_send, param_sync}
+use denote.Param.Send.{param_send, arg_send, param_sync}
 use Rattle.library_tour.proofs.SumCrossing.{seat_crosses, crew_shared}
 use Rattle.library_tour.proofs.crew.ByThreadsEntersEachSumJobSpanCount.enter_each.Goals as goal
 
