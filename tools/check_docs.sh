@@ -102,8 +102,8 @@ python3 -B tools/list_theorem.py --check || fault "docs/THEOREM.md names other d
 # Each definition that public clauses cite has a claim, or the tool has the reason why it has none.
 python3 -B tools/list_claims.py --check || fault "tools/list_claims.py finds definitions without a claim, or reasons that aren't needed"
 
-# The code in docs/LIBRARY.md is that of a crate that the gate proves and runs.
-python3 -B tools/quoted_code.py docs/LIBRARY.md library_tour || fault "docs/LIBRARY.md quotes other code than there is"
+# The code in docs/LIBRARY.md is that of crates that the gate proves and runs.
+python3 -B tools/quoted_code.py docs/LIBRARY.md library_tour async_tasks grain_tasks test_async test_grains || fault "docs/LIBRARY.md quotes other code than there is"
 
 # Each file of the repository that a document links to or names in code letters is there.
 find_each "links" < <(matches '\]\([^)#: ]+' | sed 's/ ](/ /')

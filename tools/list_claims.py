@@ -14,8 +14,10 @@ from spec_files import CRATES, definitions_in, imported, name_of, words
 
 CLAIM = re.compile(r"^\s*(?:pub )?([a-z_][a-z0-9_-]*) : (.*)$")
 CLAUSE = re.compile(r"ensures ([a-z_0-9]+) \{((?:[^{}]|\{[^{}]*\})*)\}")
-# Crates whose definitions are the claims' own nets and journals, or serve tests alone.
-EXAMPLES = ("claims", "library_tour", "test_jobs")
+# Crates whose definitions are the claims' own nets and journals, or serve tests alone, and libraries that no clause of
+# flow_main cites: of what these say only their tests compute examples.
+EXAMPLES = ("claims", "library_tour", "test_async", "test_grains", "test_jobs")
+LIBRARIES = ("async_tasks", "grain_tasks")
 # The definitions without a claim, by the reason.
 UNCLAIMED = {
     "what a law says of every run, where no run can fail it; the law's proof ties it": (
@@ -39,7 +41,7 @@ def definitions():
     """Each definition that public clauses may cite: its file, its name and its text."""
     found = {}
     for path in sorted(CRATES.glob("*/specs/*.antt")):
-        if path.name[0].islower() or path.name == "Lib.antt" or path.parts[-3] in EXAMPLES:
+        if path.name[0].islower() or path.name == "Lib.antt" or path.parts[-3] in EXAMPLES + LIBRARIES:
             continue
         found[name_of(path)] = definitions_in(path)
     return found
