@@ -1,0 +1,19 @@
+-- Chunks of a range of indices.
+use Rattle.std.specs.Prelude.{◌≡◌, ℕ, ◌-◌, ◌≤◌, List, [], ◌∷◌, map}
+use Rattle.grain_tasks.specs.Folds.{Folding, fold_from, joined, plain_fold}
+use Rattle.grain_tasks.specs.declared.chunk.Chunk.{Chunk}
+
+-- the fold of a chunk alone
+abbrev pub chunk_fold : {F V : Type 0} → Folding F V → F → Chunk → V
+chunk_fold folding f chunk = fold_from folding f chunk.from (chunk.to - chunk.from)
+
+-- The chunks lie one behind the other, from one index up to another.
+abbrev pub AreConsecutive : ℕ → ℕ → List Chunk → Type 0
+AreConsecutive from to [] = from ≡ to
+AreConsecutive from to (chunk ∷ chunks) = (chunk.from ≡ from) × (from ≤ chunk.to) × AreConsecutive chunk.to to chunks
+
+-- However a range is cut into chunks, their folds, joined in the order of the chunks, are the fold of the range.
+abbrev pub JoinsChunks : {F V : Type 0} → Folding F V → F → Type 0
+JoinsChunks folding f =
+    (chunks : List Chunk) (count : ℕ) → AreConsecutive 0 count chunks → count ≤ folding.count f
+    → joined folding f (map (chunk_fold folding f) chunks) ≡ plain_fold folding f count
