@@ -1,1 +1,4 @@
 pub mod FoldLemmas
+pub mod ChunkLemmas
+pub mod RunLemmas
+pub mod GatherLemmas

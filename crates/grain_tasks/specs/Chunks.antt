@@ -1,5 +1,7 @@
 -- Chunks of a range of indices.
-use Rattle.std.specs.Prelude.{◌≡◌, ℕ, ◌-◌, ◌≤◌, List, [], ◌∷◌, map}
+use Rattle.std.specs.Prelude.{◌≡◌, ℕ, ◌+◌, ◌-◌, ◌*◌, ◌≤◌, min, List, [], ◌∷◌, map}
+use Rattle.std.specs.Int.{div_ceil}
+use Rattle.std.specs.List.{range_with_len}
 use Rattle.grain_tasks.specs.Folds.{Folding, fold_from, joined, plain_fold}
 use Rattle.grain_tasks.specs.declared.chunk.Chunk.{Chunk}
 
@@ -17,3 +19,15 @@ abbrev pub JoinsChunks : {F V : Type 0} → Folding F V → F → Type 0
 JoinsChunks folding f =
     (chunks : List Chunk) (count : ℕ) → AreConsecutive 0 count chunks → count ≤ folding.count f
     → joined folding f (map (chunk_fold folding f) chunks) ≡ plain_fold folding f count
+
+-- how many static chunks of so many indices each a range has
+abbrev pub chunk_count : ℕ → ℕ → ℕ
+chunk_count count grain = div_ceil count grain
+
+-- The chunk at a place. The last one may be shorter.
+abbrev pub chunk_at : ℕ → ℕ → ℕ → Chunk
+chunk_at count grain place = record { from = place * grain; to = min (place * grain + grain) count }
+
+-- all of them, in order
+abbrev pub static_chunks : ℕ → ℕ → List Chunk
+static_chunks count grain = map (chunk_at count grain) (range_with_len 0 (chunk_count count grain))

@@ -1,6 +1,6 @@
 // Chunks of a range of indices.
-ghost use Rattle.std.specs.Prelude.{◌≡◌, ◌≤◌, IfOk};
-ghost use Rattle.grain_tasks.specs.Chunks.{chunk_fold};
+ghost use Rattle.std.specs.Prelude.{◌≡◌, ◌<◌, ◌≤◌, IfOk};
+ghost use Rattle.grain_tasks.specs.Chunks.{chunk_at, chunk_count, chunk_fold};
 
 use crate::fold::Fold;
 use outside_io::NoMemory;
@@ -25,4 +25,20 @@ pub fn fold_chunk<F: Fold>(alloc: Global, fold: &F, chunk: Chunk) -> Result<F::V
         value = fold.join(alloc, &value, &fold.at(alloc, index)?)?;
     }
     Ok(value)
+}
+
+// The chunk at a place, of the chunks of so many indices each into which a range is cut.
+#[tactic(auto, using(crate::proofs::ChunkLemmas::place_below))]
+pub(crate) fn chunk_at(count: u64, grain: u64, place: u64) -> Chunk
+    requires some { 1 ≤ grain }
+    requires place { place < chunk_count count grain }
+    ensures chunk { result ≡ chunk_at count grain place }
+    ensures order { result.from ≤ result.to }
+    ensures within { result.to ≤ count }
+{
+    let from = place * grain;
+    Chunk {
+        from,
+        to: from + grain.min(count - from),
+    }
 }

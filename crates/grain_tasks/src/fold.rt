@@ -7,9 +7,9 @@ use outside_io::NoMemory;
 use std::alloc::Global;
 
 /// A value for each index of a range, and a join by which they are put together.
-pub trait Fold: Send + Sync {
+pub trait Fold {
     /// The type of the values.
-    type V: Send + Sync + Drop;
+    type V: Drop;
 
     /// What folds of this type compute.
     ghost folding: { Folding Self Self.V };

@@ -2,7 +2,12 @@
 #![tactic(auto)]
 
 mod chunk;
+mod chunk_job;
+mod chunk_values;
+mod errors;
 mod fold;
 
 pub use chunk::{Chunk, fold_chunk};
+pub use chunk_job::ChunkJob;
+pub use errors::GrainError;
 pub use fold::{Fold, chunks_join};

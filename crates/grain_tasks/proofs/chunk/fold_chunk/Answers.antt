@@ -4,7 +4,7 @@ use Rattle.grain_tasks.proofs.chunk.fold_chunk.Goals as goal
 
 pub join-requires-clause-left : goal.join-requires-clause-left
 join-requires-clause-left g c =
-    let lawful = (g.met.F.Fold g.world.𝓛 g.world.𝓜 g.world.𝓡 ((λ s x. x), (λ x. x), (λ x. x), λ x. x)).lawful c.args.fold.now in
+    let lawful = g.met.F.Fold.lawful c.args.fold.now in
     let within = c.requires.within in
     let below = c.loop-index-test.true in
     subst (g.F.Fold.folding.allowed c.args.fold.now) (sym c.loop-index.invariant.0)

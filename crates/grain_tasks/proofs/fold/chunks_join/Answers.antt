@@ -3,5 +3,5 @@ use Rattle.grain_tasks.proofs.fold.chunks_join.Goals as goal
 
 pub returns : goal.returns
 returns g c =
-    let lawful = (g.met.F.Fold g.world.𝓛 g.world.𝓜 g.world.𝓡 ((λ s x. x), (λ x. x), (λ x. x), λ x. x)).lawful c.args.fold.now in
+    let lawful = g.met.F.Fold.lawful c.args.fold.now in
     joins_chunks g.F.Fold.folding c.args.fold.now lawful

@@ -1,0 +1,2 @@
+-- Internal: what a run ended with.
+pub mod Gathering
