@@ -2,3 +2,5 @@ pub mod FoldLemmas
 pub mod ChunkLemmas
 pub mod RunLemmas
 pub mod GatherLemmas
+pub mod Totals
+pub mod RowSteps

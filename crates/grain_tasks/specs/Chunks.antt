@@ -1,5 +1,5 @@
 -- Chunks of a range of indices.
-use Rattle.std.specs.Prelude.{◌≡◌, ℕ, ◌+◌, ◌-◌, ◌*◌, ◌≤◌, min, List, [], ◌∷◌, map}
+use Rattle.std.specs.Prelude.{◌≡◌, ℕ, ◌+◌, ◌-◌, ◌*◌, ◌≤◌, min, Bool, ◌&&◌, nat_le, nat_lt, List, [], ◌∷◌, map, count_by, if◌then◌else◌}
 use Rattle.std.specs.Int.{div_ceil}
 use Rattle.std.specs.List.{range_with_len}
 use Rattle.grain_tasks.specs.Folds.{Folding, fold_from, joined, plain_fold}
@@ -31,3 +31,11 @@ chunk_at count grain place = record { from = place * grain; to = min (place * gr
 -- all of them, in order
 abbrev pub static_chunks : ℕ → ℕ → List Chunk
 static_chunks count grain = map (chunk_at count grain) (range_with_len 0 (chunk_count count grain))
+
+-- whether a chunk has an index
+abbrev pub has_index : ℕ → Chunk → Bool
+has_index i chunk = nat_le chunk.from i && nat_lt i chunk.to
+
+-- Each index below the count is in one of these chunks and in no other; any other index is in none.
+abbrev pub HaveEachOnce : ℕ → List Chunk → Type 0
+HaveEachOnce count chunks = (i : ℕ) → count_by (has_index i) chunks ≡ (if nat_lt i count then 1 else 0)
