@@ -4,3 +4,5 @@ pub mod RunLemmas
 pub mod GatherLemmas
 pub mod Totals
 pub mod RowSteps
+pub mod CutLemmas
+pub mod ReduceLemmas

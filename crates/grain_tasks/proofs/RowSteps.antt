@@ -1,5 +1,5 @@
 -- Each step of a row keeps its rule.
-use Rattle.std.proofs.Common.{◌≡◌, ◌≢◌, ℕ, zero, suc, ◌+◌, ◌-◌, ◌*◌, ◌%◌, ◌^◌, ◌<◌, ◌≤◌, Bool, true, false, cond, List, [], ◌∷◌, ◌++◌, length, set, refl, sym, ap, ◌∙◌, subst, ⊎_elim, suc-mul, zero-mul, arith}
+use Rattle.std.proofs.Common.{◌≡◌, ◌≢◌, ℕ, zero, suc, ◌+◌, ◌*◌, ◌%◌, ◌^◌, ◌<◌, ◌≤◌, Bool, true, false, cond, List, [], ◌∷◌, ◌++◌, length, set, refl, sym, ap, ◌∙◌, subst, ⊎_elim, suc-mul, zero-mul, arith}
 use Rattle.std.specs.Prelude.{◌&&◌, count_by, min, nat_le, nat_lt, replicate, slice_index}
 use Rattle.std.proofs.lemmas.Bool.Decides.{nat_tests}
 use Rattle.std.proofs.lemmas.List.{length-set}
@@ -15,7 +15,7 @@ use Rattle.grain_tasks.specs.Chunks.{has_index}
 use Rattle.atomic_table.specs.Seated.{TableId}
 use Rattle.grain_tasks.specs.Rows.{DrawState, IsShape, RowState, draw_state}
 use Rattle.grain_tasks.specs.inside.Views.{Draws, Fits, IsRow, IsSettled, Learns, Told, both_views, chunk_from, drawn_by, first_view, fresh_view, late_of, one_fewer, one_seat, seats_of, spent_view, times_in, total, view_drawn}
-use Rattle.grain_tasks.proofs.Totals.{IsIdle, one_within, only_one, total_push, total_set, total_within}
+use Rattle.grain_tasks.proofs.Totals.{IsIdle, only_one, total_push, total_set, total_within}
 
 abbrev one : Bool → ℕ
 one b = cond b 1 0

@@ -6,6 +6,7 @@ mod chunk_job;
 mod chunk_values;
 mod errors;
 mod fold;
+mod reduce;
 mod row;
 mod row_view;
 
@@ -13,5 +14,6 @@ pub use chunk::{Chunk, fold_chunk};
 pub use chunk_job::ChunkJob;
 pub use errors::GrainError;
 pub use fold::{Fold, chunks_join};
+pub use reduce::reduce_drawn;
 pub use row::{ChunkRow, Drained, Draw, Drawn, RowParts};
 pub use row_view::{RowShape, View};

@@ -89,12 +89,7 @@ impl ChunkRow {
     ghost use Rattle.grain_tasks.specs.Draws.{DrawsFrom};
 
     /// A row of so many indices, of which so many seats draw chunks of `grain` indices each. There is a draw for each seat.
-    pub fn new(
-        alloc: Global,
-        count: u64,
-        grain: u64,
-        seats: u32,
-    ) -> Result<RowParts, GrainError>
+    pub fn new(alloc: Global, count: u64, grain: u64, seats: u32) -> Result<RowParts, GrainError>
         requires few { count ≤ 1099511627776 }
         requires small { grain ≤ 1000000 }
         requires seats { 1 ≤ seats }

@@ -9,9 +9,11 @@ split_seat-next-requires c =
     let below = c.loop-cut-test.true in
     let id = ap (λ (r : RowState). r.id) c.self.view_is in
     let shape = ap (λ (r : RowState). r.shape) c.self.view_is in
-    let seats = ap (λ (r : RowState). r.shape.seats) c.self.view_is in
-    (c.loop-cut.invariant.0 ∙ sym id, omega arith,
-    cuts_fresh c.self.inside.table.shared.key c.args.self.now.shape _ _ _ (omega (arith, below, seats)) (ap (λ m. m.0) c.loop-cut.invariant.1))
+    let seats = ap (λ (r : RowState). r.shape.seats) c.self.view_is in (
+      c.loop-cut.invariant.0 ∙ sym id,
+      omega arith,
+      cuts_fresh c.self.inside.table.shared.key c.args.self.now.shape _ _ _ (omega (arith, below, seats)) (ap (λ m. m.0) c.loop-cut.invariant.1),
+    )
 
 pub invariant_of-push-2 : goal.invariant_of-push-2
 invariant_of-push-2 c =

@@ -1,5 +1,5 @@
-use Rattle.std.proofs.Common.{◌≡◌, ◌-◌, ◌≤◌, [], replicate}
-use Rattle.grain_tasks.specs.Rows.{IsShape, draw_state}
+use Rattle.std.proofs.Common.{◌≡◌, ◌-◌, [], replicate}
+use Rattle.grain_tasks.specs.Rows.{draw_state}
 use Rattle.grain_tasks.specs.inside.Views.{fresh_view}
 use Rattle.grain_tasks.proofs.row.ChunkRow.cut_seats.Given as goal
 
