@@ -51,8 +51,8 @@ pub record TakesJob (count grain : ℕ) : Type 0 where
   pub some : 1 ≤ grain
   pub few : chunk_count count grain ≤ part_limit
 
--- Why such a job is refused: `ZeroGrain` exactly where chunks would have no index, `TooMany` exactly where there would be
--- more than 65,536 chunks.
+-- Why such a job is refused: `ZeroGrain` exactly where chunks would have no index, `TooMany` exactly where there
+-- would be more than 65,536 chunks.
 abbrev pub RefusesJob : ℕ → ℕ → GrainError → Type 0
 RefusesJob count grain ZeroGrain = grain ≡ 0
 RefusesJob count grain (TooMany k) = (1 ≤ grain) × (k ≡ chunk_count count grain) × (part_limit < k)

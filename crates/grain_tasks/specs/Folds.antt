@@ -2,8 +2,8 @@
 use Rattle.std.specs.Prelude.{◌≡◌, ℕ, ◌<◌, List, map}
 use Rattle.std.specs.List.{fold, range_with_len}
 
--- What folds of a type compute, with values of a type: how many indices a fold has, the value at each, the value of no
--- index, how two values are joined, and which values the laws speak of.
+-- What folds of a type compute, with values of a type: how many indices a fold has, the value at each, the value of
+-- no index, how two values are joined, and which values the laws speak of.
 pub record Folding (F V : Type 0) : Type 1 where
   pub count : F → ℕ
   pub at : F → ℕ → V
@@ -11,8 +11,8 @@ pub record Folding (F V : Type 0) : Type 1 where
   pub join : F → V → V → V
   pub allowed : F → V → Type 0
 
--- The laws of a fold. The unit, the value at each index and each join of allowed values are allowed. On allowed values
--- the join is associative and the unit is neutral.
+-- The laws of a fold. The unit, the value at each index and each join of allowed values are allowed. On allowed
+-- values the join is associative and the unit is neutral.
 pub record IsLawful {F V : Type 0} (folding : Folding F V) (f : F) : Type 0 where
   pub unit_allowed : folding.allowed f (folding.unit f)
   pub value_allowed : (i : ℕ) → i < folding.count f → folding.allowed f (folding.at f i)

@@ -42,7 +42,8 @@ impl<F: Fold> Model for ChunkJob<F> {
 }
 
 impl<F: Fold + Drop> ChunkJob<F> {
-    /// The job of the first `count` indices of a fold, in chunks of `grain` indices each; the last chunk may have fewer.
+    /// The job of the first `count` indices of a fold, in chunks of `grain` indices each; the last chunk may have
+    /// fewer.
     pub fn new(
         alloc: Global,
         fold: Arc<F>,

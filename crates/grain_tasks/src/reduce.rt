@@ -165,8 +165,8 @@ fn gather_all<F: Fold>(
     Ok(all)
 }
 
-/// The fold of the first `count` indices by several workers, each of which draws chunks of `grain` indices: the plain
-/// fold, whatever the grain and the workers are and however their turns fall.
+/// The fold of the first `count` indices by several workers, each of which draws chunks of `grain` indices: the
+/// plain fold, whatever the grain and the workers are and however their turns fall.
 pub fn reduce_drawn<R: Threads + Sync, F: Fold + Send + Sync>(
     rt: &R,
     alloc: Global,

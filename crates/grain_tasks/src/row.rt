@@ -88,7 +88,8 @@ pub enum Drawn {
 impl ChunkRow {
     ghost use Rattle.grain_tasks.specs.Draws.{DrawsFrom};
 
-    /// A row of so many indices, of which so many seats draw chunks of `grain` indices each. There is a draw for each seat.
+    /// A row of so many indices, of which so many seats draw chunks of `grain` indices each. There is a draw for
+    /// each seat.
     pub fn new(alloc: Global, count: u64, grain: u64, seats: u32) -> Result<RowParts, GrainError>
         requires few { count ≤ 1099511627776 }
         requires small { grain ≤ 1000000 }
@@ -130,8 +131,8 @@ impl ChunkRow {
         Ok(draws)
     }
 
-    /// Draws a chunk: the indices from the number that is drawn, up to so many as a chunk has. It is one atomic addition,
-    /// and takes no memory.
+    /// Draws a chunk: the indices from the number that is drawn, up to so many as a chunk has. It is one atomic
+    /// addition, and takes no memory.
     pub fn draw(&self, draw: Draw) -> Drawn
         requires { draw.row ≡ self.now }
         ensures { DrawsFrom draw result }

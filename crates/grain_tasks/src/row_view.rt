@@ -11,8 +11,8 @@ pub struct RowShape {
     pub seats: u64,
 }
 
-/// What a seat knows: the row's shape, for how many seats it stands, how many of them found the row drawn, up to which
-/// number it knows that numbers were drawn, and which chunks it has drawn. No value of it is made.
+/// What a seat knows: the row's shape, for how many seats it stands, how many of them found the row drawn, up to
+/// which number it knows that numbers were drawn, and which chunks it has drawn. No value of it is made.
 pub struct View {
     pub shape: RowShape,
     pub seats: u64,

@@ -30,17 +30,17 @@ fresh_view shape seats = record { shape = shape; seats = seats; late = 0; reache
 abbrev pub first_view : RowShape → View
 first_view shape = fresh_view shape shape.seats
 
--- A seat has drawn past the count at most once, and only if the word is past it; what stands for no seat has drawn nothing;
--- and no view knows more to be drawn than is.
+-- A seat has drawn past the count at most once, and only if the word is past it; what stands for no seat has drawn
+-- nothing; and no view knows more to be drawn than is.
 pub record Fits (count word : ℕ) (v : View) : Type 0 where
   pub late : v.late ≤ v.seats
   pub past : 0 < v.late → count ≤ word
   pub idle : v.seats ≡ 0 → v.drawn ≡ []
   pub reached : v.reached ≤ word
 
--- The word is the next number to be drawn, a multiple of the grain. Each index below the word and the count is in one
--- chunk of one view, and no other is. So the numbers drawn below the count are 0, the grain, twice the grain and so on,
--- each in one view once. The word passes the count by no more than the seats can draw.
+-- The word is the next number to be drawn, a multiple of the grain. Each index below the word and the count is in
+-- one chunk of one view, and no other is. So the numbers drawn below the count are 0, the grain, twice the grain
+-- and so on, each in one view once. The word passes the count by no more than the seats can draw.
 pub record IsRow (shape : RowShape) (words : List ℕ) (views : List View) : Type 0 where
   pub size : length words ≡ 16
   pub place : ℕ
