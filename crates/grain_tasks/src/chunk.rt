@@ -13,8 +13,8 @@ pub struct Chunk {
     pub to: u64,
 }
 
-#[tactic(auto, using(crate::proofs::FoldLemmas::fold_from_more, crate::proofs::FoldLemmas::fold_from_none))]
 /// The unit joined with the values at the indices of a chunk, in order.
+#[tactic(auto, using(crate::proofs::FoldLemmas::fold_from_more, crate::proofs::FoldLemmas::fold_from_none))]
 pub fn fold_chunk<F: Fold>(alloc: Global, fold: &F, chunk: Chunk) -> Result<F::V, NoMemory>
     requires order { chunk.from ≤ chunk.to }
     requires within { chunk.to ≤ F.folding.count fold.now }
