@@ -1,0 +1,72 @@
+-- What is outstanding, after a ticket was issued or redeemed.
+use Rattle.std.proofs.Common.{◌≡◌, ◌≢◌, ◌⊎◌, inl, inr, ℕ, zero, suc, ◌+◌, ◌<◌, ◌≤◌, List, [], ◌∷◌, ◌++◌, length, map, set, Option, Some, None, refl, sym, ap, ◌∙◌, subst, arith}
+use Rattle.std.specs.Prelude.{slice_get}
+use Rattle.async_tasks.specs.declared.outstanding.Outstanding.{Outstanding}
+use Rattle.async_tasks.specs.Books.{BookHistory, Holder, holder_of, NothingOut}
+use Rattle.async_tasks.specs.Adds.{with_items}
+use Rattle.async_tasks.specs.inside.Keeps.{ItemFits, KeepsBook}
+use Rattle.async_tasks.proofs.Lists.{some_same, get_push_cases, get_cleared, not_cleared}
+
+module _ {W V : Type 0} where
+  -- each caller and each task is outstanding once at most
+  abbrev pub OnceEach : List (Option (Outstanding W V)) → Type 0
+  OnceEach items = (n m : ℕ) (x y : Outstanding W V) → slice_get items n ≡ Some (Some x) → slice_get items m ≡ Some (Some y) → holder_of x ≡ holder_of y → n ≡ m
+
+  pub once_issued : (items : List (Option (Outstanding W V))) (item : Outstanding W V) → OnceEach items → NothingOut (holder_of item) items → OnceEach (items ++ Some item ∷ [])
+  once_issued items item once none n m x y at_n at_m same = by_places (get_push_cases items (Some item) (Some x) n at_n) (get_push_cases items (Some item) (Some y) m at_m)
+    where
+      by_places : (slice_get items n ≡ Some (Some x)) ⊎ ((n ≡ length items) × (Some item ≡ Some x)) → (slice_get items m ≡ Some (Some y)) ⊎ ((m ≡ length items) × (Some item ≡ Some y)) → n ≡ m
+      by_places (inl a) (inl b) = once n m x y a b same
+      by_places (inl a) (inr b) = absurd (none n x a (same ∙ sym (ap holder_of (some_same b.1))))
+      by_places (inr a) (inl b) = absurd (none m y b (sym same ∙ sym (ap holder_of (some_same a.1))))
+      by_places (inr a) (inr b) = a.0 ∙ sym b.0
+
+  pub once_redeemed : (items : List (Option (Outstanding W V))) (k : ℕ) → OnceEach items → OnceEach (set items k None)
+  once_redeemed items k once n m x y at_n at_m same = once n m x y (get_cleared items k n x at_n) (get_cleared items k m y at_m) same
+
+  -- a holder whose ticket was redeemed has nothing out
+  pub nothing_left : (items : List (Option (Outstanding W V))) (k : ℕ) (item : Outstanding W V) → OnceEach items → slice_get items k ≡ Some (Some item) → NothingOut (holder_of item) (set items k None)
+  nothing_left items k item once at n x at_n same =
+      let here : n ≡ k = once n k x item (get_cleared items k n x at_n) at same in
+      not_cleared items k x (subst (λ j. slice_get (set items k None) j ≡ Some (Some x)) here at_n)
+
+  pub nothing_more : (holder : Holder) (items : List (Option (Outstanding W V))) (k : ℕ) → NothingOut holder items → NothingOut holder (set items k None)
+  nothing_more holder items k none n x at same = none n x (get_cleared items k n x at) same
+
+  pub nothing_issued : (holder : Holder) (items : List (Option (Outstanding W V))) (item : Outstanding W V) → holder_of item ≢ holder → NothingOut holder items → NothingOut holder (items ++ Some item ∷ [])
+  nothing_issued holder items item other none n x at same = by_place (get_push_cases items (Some item) (Some x) n at)
+    where
+      by_place : (slice_get items n ≡ Some (Some x)) ⊎ ((n ≡ length items) × (Some item ≡ Some x)) → ⊥
+      by_place (inl old) = none n x old same
+      by_place (inr last) = other (ap holder_of (some_same last.1) ∙ same)
+
+  module _ (answers : W → List V → V → Type 0) (book : BookHistory W V) where
+    pub keeps_redeem : (k : ℕ) → KeepsBook answers book → KeepsBook answers (with_items book (set book.items k None))
+    keeps_redeem k h = record {
+      history = h.history;
+      row_count = h.row_count;
+      work_count = h.work_count;
+      stage_count = h.stage_count;
+      staged = h.staged;
+      inputs = h.inputs;
+      values = h.values;
+      fits = λ n item at. h.fits n item (get_cleared book.items k n item at);
+      once = once_redeemed book.items k h.once;
+    }
+
+    pub keeps_issue : (item : Outstanding W V) → KeepsBook answers book → ItemFits book item → NothingOut (holder_of item) book.items → KeepsBook answers (with_items book (book.items ++ Some item ∷ []))
+    keeps_issue item h fits none = record {
+      history = h.history;
+      row_count = h.row_count;
+      work_count = h.work_count;
+      stage_count = h.stage_count;
+      staged = h.staged;
+      inputs = h.inputs;
+      values = h.values;
+      fits = λ n x at. all_fit n x (get_push_cases book.items (Some item) (Some x) n at);
+      once = once_issued book.items item h.once none;
+    }
+      where
+        all_fit : (n : ℕ) (x : Outstanding W V) → (slice_get book.items n ≡ Some (Some x)) ⊎ ((n ≡ length book.items) × (Some item ≡ Some x)) → ItemFits book x
+        all_fit n x (inl old) = h.fits n x old
+        all_fit n x (inr last) = subst (ItemFits book) (some_same last.1) fits

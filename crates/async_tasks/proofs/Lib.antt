@@ -1,0 +1,6 @@
+mod Lists
+mod Telling
+mod Issuing
+mod Adding
+mod Starting
+mod Ending

@@ -1,0 +1,37 @@
+use Rattle.std.proofs.Common.{refl, subst, ◌≡◌, ◌<◌, ◌∙◌, ◌++◌, ◌∷◌, [], sym, ap, map}
+use Rattle.std.specs.Arc.{arc_value}
+use Rattle.tickets.specs.Books.{BookState, TicketState}
+use Rattle.async_tasks.specs.declared.outstanding.Outstanding.{Outstanding}
+use Rattle.async_tasks.specs.Books.{BookHistory}
+use Rattle.async_tasks.specs.Starts.{OpenStart}
+use Rattle.async_tasks.specs.Adds.{EndsTask}
+use Rattle.async_tasks.proofs.Starting.{keeps_at}
+use Rattle.async_tasks.proofs.Ending.{ended, ends, is_open}
+use Rattle.async_tasks.proofs.state.BookState.end_in.Goals as goal
+
+pub invariant_of-self-2 : goal.invariant_of-self-2
+invariant_of-self-2 g c =
+    let s = c.self.inside in
+    let start = c.started.inside in
+    let W = g.row.W.Denot in
+    let V = g.row.W-V.Denot in
+    let same_table : s.book.register ≡ c.redeem.new.book.register = ap (λ (b : BookHistory W V). b.register) c.self.view_is ∙ c.requires.register ∙ sym (ap (λ (b : BookState (Outstanding W V)). b.register) c.redeem.ensures.book) in
+    ended g.W.AsyncWork.answers c.redeem.new.book.register s.callers s.rows.items s.events.items (map arc_value s.works.items) s.stages.items s.book.items
+    c.push.new.self.items c.set_stage.new.stages.items c.redeem.new.book.items start.task (arc_value start.work) (map arc_value start.ins) c.args.value start.ticket.number start.ticket.item
+    (keeps_at g.W.AsyncWork.answers s.book.register c.redeem.new.book.register s.callers s.rows.items s.events.items (map arc_value s.works.items) s.stages.items s.book.items same_table c.self.invariant)
+    c.redeem.ensures.outstanding c.started.invariant
+    (subst (λ (o : OpenStart W V). g.W.AsyncWork.answers o.work o.ins (arc_value c.args.value)) (sym c.started.view_is) c.requires.answered)
+    c.in_ok-push.ensures.items c.set_stage.ensures (ap (λ (b : BookState (Outstanding W V)). b.items) c.redeem.ensures.book)
+
+pub returns-clause-ok : goal.returns-clause-ok
+returns-clause-ok g c =
+    let s = c.self.inside in
+    let start = c.started.inside in
+    let W = g.row.W.Denot in
+    let V = g.row.W-V.Denot in
+    let same_table : s.book.register ≡ c.redeem.new.book.register = ap (λ (b : BookHistory W V). b.register) c.self.view_is ∙ c.requires.register ∙ sym (ap (λ (b : BookState (Outstanding W V)). b.register) c.redeem.ensures.book) in
+    ends g.W.AsyncWork.answers s.book.register s.callers s.rows.items s.events.items (map arc_value s.works.items) s.stages.items s.book.items
+    c.redeem.new.book.register start.ticket.register c.push.new.self.items c.set_stage.new.stages.items c.redeem.new.book.items start.task (arc_value start.work) (map arc_value start.ins) c.args.value
+    c.self.invariant
+    (is_open g.W.AsyncWork.answers s.book.register s.callers s.rows.items s.events.items (map arc_value s.works.items) s.stages.items s.book.items start.task (arc_value start.work) (map arc_value start.ins) start.ticket.number start.ticket.item c.self.invariant c.redeem.ensures.outstanding c.started.invariant)
+    (sym same_table) c.in_ok-push.ensures.items c.set_stage.ensures c.args.self.now c.args.started c.self.view_is c.started.view_is

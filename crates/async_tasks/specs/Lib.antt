@@ -1,0 +1,5 @@
+pub mod Histories
+pub mod Books
+pub mod Adds
+pub mod Starts
+pub mod inside

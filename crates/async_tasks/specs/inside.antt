@@ -1,0 +1,3 @@
+-- Internal: what a book of tasks keeps.
+pub mod Keeps
+pub mod Ready
