@@ -1,8 +1,16 @@
 -- What is outstanding, after a ticket was issued or redeemed.
 use Rattle.std.proofs.Common.{◌≡◌, ◌≢◌, ◌⊎◌, inl, inr, ℕ, zero, suc, ◌+◌, ◌<◌, ◌≤◌, List, [], ◌∷◌, ◌++◌, length, map, set, Option, Some, None, refl, sym, ap, ◌∙◌, subst, arith}
 use Rattle.std.specs.Prelude.{slice_get}
+use Rattle.atomic_table.specs.Seated.{TableId}
+use Rattle.async_tasks.specs.declared.history.AddRow.{AddRow}
+use Rattle.async_tasks.specs.declared.history.TaskEvent.{TaskEvent}
+use Rattle.async_tasks.specs.declared.stage.Stage.{Stage}
 use Rattle.async_tasks.specs.declared.outstanding.Outstanding.{Outstanding}
-use Rattle.async_tasks.specs.Books.{BookHistory, Holder, holder_of, NothingOut}
+use Rattle.std.proofs.lemmas.List.{append-nil}
+use Rattle.async_tasks.specs.declared.outstanding.Outstanding.TheVariants.{Pass, Running}
+use Rattle.async_tasks.specs.Histories.{rows_of}
+use Rattle.async_tasks.specs.Starts.{IsPassFor, rows_seen, HasSeen, IsFreshPass}
+use Rattle.async_tasks.specs.Books.{BookHistory, book_history, Holder, holder_of, caller_of, NothingOut}
 use Rattle.async_tasks.specs.Adds.{with_items}
 use Rattle.async_tasks.specs.inside.Keeps.{ItemFits, KeepsBook}
 use Rattle.async_tasks.proofs.Lists.{some_same, get_push_cases, get_cleared, not_cleared}
@@ -70,3 +78,34 @@ module _ {W V : Type 0} where
         all_fit : (n : ℕ) (x : Outstanding W V) → (slice_get book.items n ≡ Some (Some x)) ⊎ ((n ≡ length book.items) × (Some item ≡ Some x)) → ItemFits book x
         all_fit n x (inl old) = h.fits n x old
         all_fit n x (inr last) = subst (ItemFits book) (some_same last.1) fits
+
+-- What a pass's ticket shows when it comes back.
+pub seen_by : {W V : Type 0} (book : BookHistory W V) (caller : ℕ) (item : Outstanding W V) → ItemFits book item → IsPassFor caller item → HasSeen book.rows caller (rows_seen item)
+seen_by book caller (Pass c front) fits is = subst (λ k. HasSeen book.rows k front.value.items) is fits
+seen_by book caller (Running u work values) fits is = absurd is
+
+pub pass_holder : {W V : Type 0} (caller : ℕ) (item : Outstanding W V) → IsPassFor caller item → holder_of item ≡ caller_of caller
+pass_holder caller (Pass c front) is = ap caller_of is
+pass_holder caller (Running u work values) is = absurd is
+
+-- A pass that has seen all rows fits.
+pub pass_fits : {W V : Type 0} (book : BookHistory W V) (caller : ℕ) (item : Outstanding W V) → IsPassFor caller item → rows_seen item ≡ book.rows → ItemFits book item
+pass_fits book caller (Pass c front) is all = (([], sym all ∙ sym (append-nil front.value.items)), ap (rows_of c) (sym all))
+pass_fits book caller (Running u work values) is all = absurd is
+
+-- other callers have nothing out, as before
+pub others_out : {W V : Type 0} (items items' : List (Option (Outstanding W V))) (caller c : ℕ) (item : Outstanding W V) → items' ≡ items ++ Some item ∷ [] → IsPassFor caller item → NothingOut (caller_of c) items → (c ≡ caller → ⊥) → NothingOut (caller_of c) items'
+others_out items items' caller c item same is none other =
+    subst (λ xs. NothingOut (caller_of c) xs) (sym same)
+    (nothing_issued (caller_of c) items item (λ here. other (sym (same_caller (sym (pass_holder caller item is) ∙ here)))) none)
+  where
+    same_caller : {a b : ℕ} → caller_of a ≡ caller_of b → a ≡ b
+    same_caller e = cc
+
+-- Tickets keep what holds of a book, by its parts.
+module _ {W V : Type 0} (answers : W → List V → V → Type 0) (register register' : TableId) (callers : ℕ) (rows : List AddRow) (events : List TaskEvent) (works : List W) (stages : List (Stage V)) (items items' : List (Option (Outstanding W V))) where
+  pub redeemed : (n : ℕ) → register ≡ register' → items' ≡ set items n None → KeepsBook answers (book_history register callers rows events works stages items) → KeepsBook answers (book_history register' callers rows events works stages items')
+  redeemed n same same_items h = rw (← same, same_items) (keeps_redeem answers (book_history register callers rows events works stages items) n h)
+
+  pub issued : (item : Outstanding W V) → register ≡ register' → items' ≡ items ++ Some item ∷ [] → KeepsBook answers (book_history register callers rows events works stages items) → ItemFits (book_history register callers rows events works stages items) item → NothingOut (holder_of item) items → KeepsBook answers (book_history register' callers rows events works stages items')
+  issued item same same_items h fits none = rw (← same, same_items) (keeps_issue answers (book_history register callers rows events works stages items) item h fits none)

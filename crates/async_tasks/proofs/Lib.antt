@@ -4,3 +4,8 @@ mod Issuing
 mod Adding
 mod Starting
 mod Ending
+mod Passing
+mod Keys
+mod Finishing
+mod Beginning
+mod Closing

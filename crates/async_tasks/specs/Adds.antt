@@ -42,14 +42,14 @@ with_add book caller work after = record {
   items = book.items;
 }
 
--- Why an add is refused. The work is handed back. A book that is full refuses each add; of another the first task named
--- that isn't there; out of memory is returned only where neither holds.
-abbrev pub RefusesAdd : {W V : Type 0} → BookHistory W V → Arc W Global → List ℕ → AddError W → Type 0
-RefusesAdd book work after (NoSuch back task seen) =
-    (back ≡ work) × (length book.rows < task_limit) × (first_unseen seen after ≡ Some task) × (seen ≡ length book.rows)
-RefusesAdd book work after (Full back seen) = (back ≡ work) × (seen ≡ task_limit) × (length book.rows ≡ task_limit)
-RefusesAdd book work after (NoMemory back) =
-    (back ≡ work) × (length book.rows < task_limit) × (first_unseen (length book.rows) after ≡ None)
+-- Why an add to a book with so many rows is refused. The work is handed back. A book that is full refuses each add;
+-- of another the first task named that isn't there; out of memory is returned only where neither holds.
+abbrev pub RefusesAdd : {W : Type 0} → ℕ → Arc W Global → List ℕ → AddError W → Type 0
+RefusesAdd count work after (NoSuch back task seen) =
+    (back ≡ work) × (count < task_limit) × (first_unseen count after ≡ Some task) × (seen ≡ count)
+RefusesAdd count work after (Full back seen) = (back ≡ work) × (seen ≡ task_limit) × (count ≡ task_limit)
+RefusesAdd count work after (NoMemory back) =
+    (back ≡ work) × (count < task_limit) × (first_unseen count after ≡ None)
 
 -- A task may start: it has a row, wasn't started, and all that it names ended.
 abbrev pub CanStart : {W V : Type 0} → BookHistory W V → ℕ → Type 0

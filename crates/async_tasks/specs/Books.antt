@@ -22,6 +22,17 @@ pub record BookHistory (W V : Type 0) : Type 0 where
 abbrev pub book_history : {W V : Type 0} → TableId → ℕ → List AddRow → List TaskEvent → List W → List (Stage V) → List (Option (Outstanding W V)) → BookHistory W V
 book_history register callers rows events works stages items = record { register = register; callers = callers; rows = rows; events = events; works = works; stages = stages; items = items }
 
+-- which book it is: the table of its tickets, and how many callers it has
+pub record BookKey : Type 0 where
+  pub register : TableId
+  pub callers : ℕ
+
+abbrev pub book_key : TableId → ℕ → BookKey
+book_key register callers = record { register = register; callers = callers }
+
+abbrev pub key_of : {W V : Type 0} → BookHistory W V → BookKey
+key_of book = book_key book.register book.callers
+
 -- the value of a task that is over
 abbrev pub value_in : {V : Type 0} → Option (Stage V) → Option V
 value_in None = None

@@ -2,4 +2,8 @@ pub mod Histories
 pub mod Books
 pub mod Adds
 pub mod Starts
+pub mod Passes
+pub mod AsyncBooks
+pub mod Runs
+pub mod Finishes
 pub mod inside

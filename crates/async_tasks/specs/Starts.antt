@@ -1,8 +1,10 @@
 -- Open starts and passes, as contracts see them.
-use Rattle.std.specs.Prelude.{◌≡◌, ℕ, List, [], map, Option, Some, None, MatchOption}
+use Rattle.std.specs.Prelude.{◌≡◌, ℕ, List, [], ◌++◌, length, map}
 use Rattle.std.specs.Arc.{arc_value}
 use Rattle.atomic_table.specs.Seated.{TableId}
 use Rattle.tickets.specs.Books.{TicketState}
+use Rattle.async_tasks.specs.Histories.{rows_of}
+use Rattle.async_tasks.specs.Books.{BookHistory}
 use Rattle.async_tasks.specs.declared.history.AddRow.{AddRow}
 use Rattle.async_tasks.specs.declared.outstanding.Outstanding.{Outstanding}
 use Rattle.async_tasks.specs.declared.outstanding.Outstanding.TheVariants.{Pass, Running}
@@ -16,16 +18,6 @@ pub record OpenStart (W V : Type 0) : Type 0 where
 
 abbrev pub open_start : {W V : Type 0} → TableId → ℕ → W → List V → OpenStart W V
 open_start register task work ins = record { register = register; task = task; work = work; ins = ins }
-
--- A pass: of which book it is, its caller, how many tickets the book had given when it looked last, and the rows that it saw then
-pub record PassState : Type 0 where
-  pub register : TableId
-  pub caller : ℕ
-  pub looked : ℕ
-  pub seen : List AddRow
-
-abbrev pub pass_state : TableId → ℕ → ℕ → List AddRow → PassState
-pass_state register caller looked seen = record { register = register; caller = caller; looked = looked; seen = seen }
 
 -- a ticket is for this open start
 abbrev pub IsTicketFor : {W V : Type 0} → ℕ → W → List V → Outstanding W V → Type 0
@@ -41,3 +33,14 @@ IsPassFor c (Running task work values) = ⊥
 abbrev pub rows_seen : {W V : Type 0} → Outstanding W V → List AddRow
 rows_seen (Pass caller seen) = seen.value.items
 rows_seen (Running task work values) = []
+
+-- these rows are a prefix of the book's, with all of a caller's
+abbrev pub HasSeen : List AddRow → ℕ → List AddRow → Type 0
+HasSeen rows caller front = ((more : List AddRow) × (rows ≡ front ++ more)) × (rows_of caller rows ≡ rows_of caller front)
+
+-- a ticket with the next number, for a caller's pass, which has seen all rows
+pub record IsFreshPass {W V : Type 0} (book : BookHistory W V) (caller : ℕ) (ticket : TicketState (Outstanding W V)) : Type 0 where
+  pub register : ticket.register ≡ book.register
+  pub number : ticket.number ≡ length book.items
+  pub caller_is : IsPassFor caller ticket.item
+  pub all : rows_seen ticket.item ≡ book.rows

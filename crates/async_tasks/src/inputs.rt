@@ -1,5 +1,5 @@
 // Whether a task is ready, and the values of the tasks that it names.
-ghost use Rattle.std.specs.Prelude.{◌≡◌, ◌↔◌, ◌++◌, ◌∷◌, [], List, map, IfOk, IsTrue, is_some};
+ghost use Rattle.std.specs.Prelude.{◌≡◌, ◌↔◌, ◌<◌, ◌^◌, ◌++◌, ◌∷◌, [], ℕ, true, false, length, IfNone, IfSome, List, map, IfOk, IsTrue, is_some};
 ghost use Rattle.std.specs.Option.{option_map};
 ghost use Rattle.std.specs.Arc.{arc_value};
 ghost use Rattle.std.specs.List.{list_all};
@@ -39,8 +39,8 @@ fn is_over<V>(stages: &[Stage<V>], task: u32) -> bool
     value(stages, task).is_some()
 }
 
-// The value of a task that is over.
-fn value<V>(stages: &[Stage<V>], task: u32) -> Option<&Arc<V>>
+/// The value of a task that is over.
+pub fn value<V>(stages: &[Stage<V>], task: u32) -> Option<&Arc<V>>
     ensures { option_map (λ value. arc_value value.now) result ≡ value_at stages.now task }
 {
     match stages.get(task as usize) {
@@ -49,6 +49,22 @@ fn value<V>(stages: &[Stage<V>], task: u32) -> Option<&Arc<V>>
         Some(Stage::Open) => None,
         None => None,
     }
+}
+
+/// The first task that is not over, or `None` where each is.
+pub fn first_open<V>(stages: &[Stage<V>]) -> Option<u32>
+    requires few { length stages.now < 2 ^ 32 }
+    ensures none { IfNone result ((t : ℕ) → t < length stages.now
+        → is_over stages.now t ≡ true) }
+    ensures some { IfSome result (λ t. (t < length stages.now)
+        × (is_over stages.now t ≡ false)) }
+{
+    for task in 0..stages.len() as u32 {
+        if !is_over(stages, task) {
+            return Some(task);
+        }
+    }
+    None
 }
 
 /// The values of these tasks, in the order in which they are named.

@@ -1,24 +1,34 @@
 // What is under the lock of a book of tasks, and its three changes.
-ghost use Rattle.std.specs.Prelude.{◌≡◌, ◌+◌, ◌<◌, ◌≤◌, ◌++◌, ◌∷◌, [], ℕ, length, map, IfOk, IfErr, OnOk, OnErr, Some, None, slice_get, slice_set, IfSome, IfNone};
+ghost use Rattle.std.specs.Prelude.{◌≡◌, ◌+◌, ◌<◌, ◌≤◌, ◌++◌, ◌∷◌, [], ℕ, true, false, List as Items, length, map, IfOk, IfErr, OnOk, OnErr, Some, None, slice_get, slice_set, IfSome, IfNone};
 ghost use Rattle.std.specs.Vec.{vec_capacity, vec_len};
 ghost use Rattle.std.specs.Arc.{arc_value};
-ghost use Rattle.async_tasks.specs.Adds.{after_limit, task_limit, first_unseen, with_add, RefusesAdd, CanStart, StartsTask, EndsTask};
-ghost use Rattle.async_tasks.specs.Books.{caller_of, NothingOut};
+ghost use Rattle.async_tasks.specs.Adds.{after_limit, task_limit, first_unseen, with_add, RefusesAdd, CanStart, StartsTask, EndsTask, with_items};
+ghost use Rattle.async_tasks.specs.declared.history.AddRow.{AddRow};
+ghost use Rattle.async_tasks.specs.Histories.{kept_of};
+ghost use Rattle.async_tasks.specs.Passes.{seen, IsTicketOf};
+ghost use Rattle.async_tasks.specs.Runs.{IsAsyncRun};
+ghost use Rattle.async_tasks.specs.inside.Ready.{is_over};
+ghost use Rattle.async_tasks.specs.Starts.{IsPassFor, rows_seen, HasSeen, IsFreshPass};
+ghost use Rattle.async_tasks.specs.Books.{caller_of, book_key, key_of, NothingOut};
 ghost use Rattle.async_tasks.specs.declared.stage.Stage.TheVariants.{Waiting};
 
 use crate::history::{AddRow, TaskEvent};
-use crate::inputs::{inputs, is_ready};
+use crate::inputs::{first_open, inputs, is_ready};
 use crate::links::Links;
+use crate::opening::Opening;
 use crate::outstanding::Outstanding;
+use crate::pass::Pass;
+use crate::run::AsyncRun;
 use crate::stage::Stage;
 use crate::started::Started;
 use crate::work::AsyncWork;
+use keyed_lock::Keyed;
 use outside_io::{List, NoMemory};
 use std::alloc::Global;
 use std::marker::Model;
 use std::snapshot::Snapshot;
 use std::sync::Arc;
-use tickets::{Book, Register};
+use tickets::{Book, Register, Ticket};
 
 /// How many tasks a book may have.
 pub const MAX_TASKS: u32 = 100_000;
@@ -53,6 +63,9 @@ pub struct BookState<W: AsyncWork> {
 impl<W: AsyncWork> Model for BookState<W> {
     ghost use Rattle.std.specs.Prelude.{map};
     ghost use Rattle.std.specs.Arc.{arc_value};
+    ghost use Rattle.async_tasks.specs.declared.history.AddRow.{AddRow};
+    ghost use Rattle.async_tasks.specs.Histories.{kept_of};
+    ghost use Rattle.async_tasks.specs.Starts.{IsPassFor, rows_seen, HasSeen, IsFreshPass};
     ghost use Rattle.async_tasks.specs.Books.{BookHistory, book_history};
     ghost use Rattle.async_tasks.specs.inside.Keeps.{KeepsBook};
 
@@ -65,6 +78,14 @@ impl<W: AsyncWork> Model for BookState<W> {
         s.events.items (map arc_value s.works.items) s.stages.items s.book.items) };
 }
 
+impl<W: AsyncWork> Keyed for BookState<W> {
+    ghost use Rattle.async_tasks.specs.Books.{BookKey, key_of};
+
+    ghost Key = { BookKey };
+
+    ghost key = { key_of };
+}
+
 impl<W: AsyncWork> BookState<W> {
     /// Adds a task, which runs after these tasks, and returns its number. After an `Err` the book is as it was.
     pub fn add_in(&mut self, caller: u32, work: Arc<W>, after: &[u32]) -> Result<u32, AddError<W>>
@@ -74,7 +95,7 @@ impl<W: AsyncWork> BookState<W> {
         ensures number { IfOk result (λ id. id ≡ length self.old.rows) }
         ensures ok { OnOk result (self.new ≡ with_add self.old caller (arc_value work) after.now) }
         ensures err { OnErr result (self.new ≡ self.old) }
-        ensures refused { IfErr result (RefusesAdd self.old work after.now) }
+        ensures refused { IfErr result (RefusesAdd (length self.old.rows) work after.now) }
     {
         let id = self.rows.len() as u32;
         if id == MAX_TASKS {
@@ -118,6 +139,7 @@ impl<W: AsyncWork> BookState<W> {
         task: u32,
     ) -> Result<Option<Started<W>>, NoMemory>
         requires register { self.old.register ≡ register.now }
+        ensures key { key_of self.new ≡ key_of self.old }
         ensures started { IfOk result (λ answer. IfSome answer (StartsTask self.old task self.new)) }
         ensures none { IfOk result (λ answer. IfNone answer ((self.new ≡ self.old)
             × (CanStart self.old task → ⊥))) }
@@ -155,6 +177,7 @@ impl<W: AsyncWork> BookState<W> {
         requires register { self.old.register ≡ register.now }
         requires started { started.register ≡ register.now }
         requires answered { W.answers started.work started.ins (arc_value value) }
+        ensures key { key_of self.new ≡ key_of self.old }
         ensures ok { OnOk result (EndsTask self.old started value self.new) }
         ensures err { OnErr result (self.new ≡ self.old) }
     {
@@ -164,6 +187,166 @@ impl<W: AsyncWork> BookState<W> {
         set_stage(&mut self.stages, task, Stage::Over(value));
         self.links.end(task);
         Ok(())
+    }
+}
+
+impl<W: AsyncWork> BookState<W> {
+    /// Takes a pass's ticket back, and learns that what it has seen is a prefix of the rows, with all of its caller's.
+    pub(crate) fn close_pass(
+        &mut self,
+        register: &Register<Outstanding<W, W::V>>,
+        ticket: Ticket<Outstanding<W, W::V>>,
+        caller: u32,
+    )
+        requires register { self.old.register ≡ register.now }
+        requires ticket { ticket.register ≡ register.now }
+        requires caller { IsPassFor caller ticket.item }
+        ensures book { self.new ≡ with_items self.old self.new.items }
+        ensures none { NothingOut (caller_of caller) self.new.items }
+        ensures seen { HasSeen self.old.rows caller (rows_seen ticket.item) }
+        ensures number { ticket.number < length self.new.items }
+    {
+        let _ = caller;
+        register.redeem(&mut self.book, ticket);
+    }
+
+    /// Adds a task for the caller with this ticket, which has seen all rows then, and gives its next ticket.
+    pub(crate) fn add_for(
+        &mut self,
+        register: &Register<Outstanding<W, W::V>>,
+        ticket: Ticket<Outstanding<W, W::V>>,
+        caller: u32,
+        work: Arc<W>,
+        after: &[u32],
+    ) -> (Ticket<Outstanding<W, W::V>>, Result<u32, AddError<W>>)
+        requires register { self.old.register ≡ register.now }
+        requires ticket { (ticket.register ≡ register.now) × IsPassFor caller ticket.item }
+        requires caller { caller < self.old.callers }
+        requires few { length after.now ≤ after_limit }
+        ensures key { key_of self.new ≡ key_of self.old }
+        ensures ticket { (result.0.register ≡ register.now) × IsPassFor caller result.0.item }
+        ensures later { ticket.number < result.0.number }
+        ensures longer { (more : Items AddRow)
+            × (rows_seen result.0.item ≡ rows_seen ticket.item ++ more) }
+        ensures added { IfOk result.1 (λ id. (length (rows_seen result.0.item) ≡ id + 1)
+            × (kept_of caller (rows_seen result.0.item)
+            ≡ kept_of caller (rows_seen ticket.item) ++ (id, after.now) ∷ [])) }
+        ensures not_added { OnErr result.1 (kept_of caller (rows_seen result.0.item)
+            ≡ kept_of caller (rows_seen ticket.item)) }
+        ensures refused { IfErr result.1
+            (RefusesAdd (length (rows_seen result.0.item)) work after.now) }
+    {
+        self.close_pass(register, ticket, caller);
+        let answer = self.add_in(caller, work, after);
+        (self.open_pass(register, caller), answer)
+    }
+
+    /// Takes off a task that is ready and not on the list of ready tasks yet.
+    pub(crate) fn take_ready(&mut self) -> Option<u32>
+        ensures { self.new ≡ self.old }
+    {
+        self.links.take_ready()
+    }
+
+    /// Puts it back.
+    pub(crate) fn put_ready(&mut self, task: u32)
+        ensures { self.new ≡ self.old }
+    {
+        self.links.put_ready(task);
+    }
+
+    /// A ticket for the pass of a caller, which has seen all rows.
+    pub(crate) fn open_pass(
+        &mut self,
+        register: &Register<Outstanding<W, W::V>>,
+        caller: u32,
+    ) -> Ticket<Outstanding<W, W::V>>
+        requires register { self.old.register ≡ register.now }
+        requires none { NothingOut (caller_of caller) self.old.items }
+        ensures book { self.new ≡ with_items self.old self.new.items }
+        ensures ticket { IsFreshPass self.old caller result }
+        ensures others { (c : ℕ) → NothingOut (caller_of c) self.old.items → (c ≡ caller → ⊥)
+            → NothingOut (caller_of c) self.new.items }
+    {
+        let seen = Outstanding::Pass {
+            caller,
+            seen: Snapshot::of(&self.rows),
+        };
+        register.issue(&mut self.book, seen)
+    }
+}
+
+impl<W: AsyncWork> BookState<W> {
+    /// The state of a book without tasks.
+    #[tactic(auto, using(crate::proofs::Finishing::keeps_none))]
+    fn empty(alloc: Global, callers: u32, book: Book<Outstanding<W, W::V>>) -> BookState<W>
+        requires { book.items ≡ [] }
+        ensures key { key_of result ≡ book_key book.register callers }
+        ensures items { result.items ≡ [] }
+    {
+        BookState {
+            alloc,
+            callers,
+            rows: Vec::new(alloc),
+            events: Vec::new(alloc),
+            works: Vec::new(alloc),
+            stages: Vec::new(alloc),
+            book,
+            links: Links::new(alloc),
+        }
+    }
+
+    /// A book without tasks for so many callers, none of which has a pass.
+    pub fn new(alloc: Global, callers: u32) -> Result<Opening<W>, NoMemory>
+        ensures key { IfOk result (λ o. key_of o.state ≡ book_key o.register callers) }
+        ensures items { IfOk result (λ o. o.state.items ≡ []) }
+    {
+        let (register, book) = Register::new(alloc)?;
+        let state = BookState::empty(alloc, callers, book);
+        Ok(Opening { register, state })
+    }
+
+    /// The first task that has no end, or `None` where each has one.
+    pub fn first_open(&self) -> Option<u32>
+        ensures none { IfNone result ((t : ℕ) → t < length self.now.stages
+            → is_over self.now.stages t ≡ true) }
+        ensures some { IfSome result (λ t. (t < length self.now.stages)
+            × (is_over self.now.stages t ≡ false)) }
+    {
+        first_open(&self.stages)
+    }
+
+    /// The run, where each task ended.
+    pub fn into_run(self) -> AsyncRun<W>
+        requires { (t : ℕ) → t < length self.stages → is_over self.stages t ≡ true }
+        ensures run { IsAsyncRun W.answers self.callers result }
+        ensures adds { result.adds ≡ self.rows }
+    {
+        let BookState {
+            rows,
+            events,
+            works,
+            stages,
+            ..
+        } = self;
+        AsyncRun {
+            adds: List::from_vec(rows),
+            events: List::from_vec(events),
+            works: List::from_vec(works),
+            stages: List::from_vec(stages),
+        }
+    }
+
+    /// Takes the ticket of a pass back for good.
+    pub(crate) fn close(&mut self, register: &Register<Outstanding<W, W::V>>, pass: Pass<W>)
+        requires register { self.old.register ≡ register.now }
+        requires pass { IsTicketOf register.now pass.ticket }
+        ensures book { self.new ≡ with_items self.old self.new.items }
+        ensures seen { HasSeen self.old.rows pass.caller (seen pass) }
+    {
+        let Pass { caller, ticket } = pass;
+        let Some(ticket) = ticket else { unreachable!() };
+        self.close_pass(register, ticket, caller);
     }
 }
 

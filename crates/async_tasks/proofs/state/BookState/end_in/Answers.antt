@@ -2,7 +2,7 @@ use Rattle.std.proofs.Common.{refl, subst, ◌≡◌, ◌<◌, ◌∙◌, ◌++�
 use Rattle.std.specs.Arc.{arc_value}
 use Rattle.tickets.specs.Books.{BookState, TicketState}
 use Rattle.async_tasks.specs.declared.outstanding.Outstanding.{Outstanding}
-use Rattle.async_tasks.specs.Books.{BookHistory}
+use Rattle.async_tasks.specs.Books.{BookHistory, book_key}
 use Rattle.async_tasks.specs.Starts.{OpenStart}
 use Rattle.async_tasks.specs.Adds.{EndsTask}
 use Rattle.async_tasks.proofs.Starting.{keeps_at}
@@ -35,3 +35,10 @@ returns-clause-ok g c =
     c.self.invariant
     (is_open g.W.AsyncWork.answers s.book.register s.callers s.rows.items s.events.items (map arc_value s.works.items) s.stages.items s.book.items start.task (arc_value start.work) (map arc_value start.ins) start.ticket.number start.ticket.item c.self.invariant c.redeem.ensures.outstanding c.started.invariant)
     (sym same_table) c.in_ok-push.ensures.items c.set_stage.ensures c.args.self.now c.args.started c.self.view_is c.started.view_is
+
+pub returns-clause-key : goal.returns-clause-key
+returns-clause-key g c =
+    let W = g.row.W.Denot in
+    let V = g.row.W-V.Denot in
+    let same : c.redeem.new.book.register ≡ c.args.self.now.register = ap (λ (b : BookState (Outstanding W V)). b.register) c.redeem.ensures.book ∙ sym c.requires.register in
+    ap (λ r. book_key r c.self.inside.callers) same ∙ ap (λ (b : BookHistory W V). book_key c.args.self.now.register b.callers) c.self.view_is

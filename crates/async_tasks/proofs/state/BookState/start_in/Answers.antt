@@ -7,7 +7,7 @@ use Rattle.tickets.specs.Books.{BookState, TicketState}
 use Rattle.async_tasks.specs.declared.history.AddRow.{AddRow}
 use Rattle.async_tasks.specs.declared.outstanding.Outstanding.{Outstanding}
 use Rattle.async_tasks.specs.declared.outstanding.Outstanding.TheVariants.{Running}
-use Rattle.async_tasks.specs.Books.{BookHistory, value_at}
+use Rattle.async_tasks.specs.Books.{BookHistory, book_key, value_at}
 use Rattle.async_tasks.specs.Histories.{found}
 use Rattle.async_tasks.specs.Adds.{CanStart, StartsTask}
 use Rattle.async_tasks.proofs.Starting.{started, starts, not_ready, is_ready_of, ready_below, has_inputs, has_work_at, keeps_at}
@@ -70,3 +70,10 @@ returns-clause-started g c =
     (ap (λ (b : BookState (Outstanding W V)). b.register) c.issue-ticket.ensures.book ∙ sym same_table)
     (ap (λ (t : TicketState (Outstanding W V)). t.register) c.issue-ticket.ensures.ticket ∙ sym same_table)
     c.in_ok-push.ensures.items c.set_stage.ensures c.args.self.now c.self.view_is
+
+pub returns-clause-key : goal.returns-clause-key
+returns-clause-key g c =
+    let W = g.row.W.Denot in
+    let V = g.row.W-V.Denot in
+    let same : c.issue-ticket.new.book.register ≡ c.args.self.now.register = ap (λ (b : BookState (Outstanding W V)). b.register) c.issue-ticket.ensures.book ∙ sym c.requires.register in
+    ap (λ r. book_key r c.self.inside.callers) same ∙ ap (λ (b : BookHistory W V). book_key c.args.self.now.register b.callers) c.self.view_is

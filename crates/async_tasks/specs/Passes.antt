@@ -1,0 +1,57 @@
+-- Passes of callers, as contracts see them.
+use Rattle.std.specs.Prelude.{◌≡◌, ℕ, ◌<◌, ◌≤◌, List, [], ◌∷◌, ◌++◌, length, Option, Some, None}
+use Rattle.std.specs.declared.alloc.Global.{Global}
+use Rattle.std.specs.declared.sync.Arc.{Arc}
+use Rattle.atomic_table.specs.Seated.{TableId}
+use Rattle.tickets.specs.Books.{TicketState}
+use Rattle.async_tasks.specs.declared.history.AddRow.{AddRow}
+use Rattle.async_tasks.specs.declared.outstanding.Outstanding.{Outstanding}
+use Rattle.async_tasks.specs.declared.state.AddError.{AddError}
+use Rattle.async_tasks.specs.Histories.{rows_of, kept_of}
+use Rattle.async_tasks.specs.Adds.{RefusesAdd}
+use Rattle.async_tasks.specs.Starts.{IsPassFor, rows_seen}
+
+-- whose pass it is, and its ticket
+pub record PassState (W V : Type 0) : Type 0 where
+  pub caller : ℕ
+  pub ticket : Option (TicketState (Outstanding W V))
+
+abbrev pub pass_state : {W V : Type 0} → ℕ → Option (TicketState (Outstanding W V)) → PassState W V
+pass_state caller ticket = record { caller = caller; ticket = ticket }
+
+module _ {W V : Type 0} where
+  -- it has a ticket of its caller
+  abbrev pub IsHeld : ℕ → Option (TicketState (Outstanding W V)) → Type 0
+  IsHeld caller None = ⊥
+  IsHeld caller (Some ticket) = IsPassFor caller ticket.item
+
+  -- its ticket is of the book of this table
+  abbrev pub IsTicketOf : TableId → Option (TicketState (Outstanding W V)) → Type 0
+  IsTicketOf register None = ⊥
+  IsTicketOf register (Some ticket) = ticket.register ≡ register
+
+  abbrev pub rows_in : Option (TicketState (Outstanding W V)) → List AddRow
+  rows_in None = []
+  rows_in (Some ticket) = rows_seen ticket.item
+
+  abbrev pub number_in : Option (TicketState (Outstanding W V)) → ℕ
+  number_in None = 0
+  number_in (Some ticket) = ticket.number
+
+  -- the rows that a pass has seen
+  abbrev pub seen : PassState W V → List AddRow
+  seen pass = rows_in pass.ticket
+
+  -- how many tickets its book had given when it looked last
+  abbrev pub looked : PassState W V → ℕ
+  looked pass = number_in pass.ticket
+
+  -- what it has kept: of each of its adds the number and the tasks named
+  abbrev pub kept : PassState W V → List (ℕ × List ℕ)
+  kept pass = kept_of pass.caller (seen pass)
+
+  -- It has looked into the book: it is the same caller's, it has seen all that it had seen, and perhaps more.
+  pub record LooksAgain (old new : PassState W V) : Type 0 where
+    pub caller : new.caller ≡ old.caller
+    pub later : looked old < looked new
+    pub longer : (more : List AddRow) × (seen new ≡ seen old ++ more)

@@ -1,0 +1,207 @@
+// Books of tasks.
+ghost use Rattle.std.specs.Prelude.{◌≡◌, ◌+◌, ◌<◌, ◌≤◌, ◌++◌, ◌∷◌, [], ℕ, length, IfOk, IfErr, OnErr, IfSome, All};
+ghost use Rattle.std.specs.Arc.{arc_value};
+ghost use Rattle.keyed_lock.specs.Locks.{made_with};
+ghost use Rattle.async_tasks.specs.Adds.{after_limit, RefusesAdd};
+ghost use Rattle.async_tasks.specs.AsyncBooks.{IsPassOf, HasAdded};
+ghost use Rattle.async_tasks.specs.Passes.{seen, kept, LooksAgain};
+
+use crate::outstanding::Outstanding;
+use crate::pass::Pass;
+use crate::ready_task::ReadyTask;
+use crate::started::Started;
+use crate::state::{AddError, BookState};
+use crate::work::AsyncWork;
+use keyed_lock::{Held, KeyedLock};
+use outside_io::NoMemory;
+use ready_deques::{Owner, Ready};
+use std::marker::Model;
+use std::sync::atomic::AtomicBool;
+use std::sync::atomic::Ordering::SeqCst;
+use std::sync::{Arc, Wait};
+use tickets::Register;
+
+/// A book of tasks, to which callers add while workers step.
+pub struct AsyncBook<W: AsyncWork> {
+    pub(crate) register: Register<Outstanding<W, W::V>>,
+    pub(crate) lock: KeyedLock<BookState<W>>,
+    pub(crate) ready: Arc<Ready<ReadyTask>>,
+    // Whether some ready task waits in the state, since the list had no room for it.
+    pub(crate) left_over: AtomicBool,
+}
+
+impl<W: AsyncWork> Drop for AsyncBook<W> {
+    fn drop(self) {
+        let AsyncBook {
+            register,
+            lock,
+            ready,
+            left_over,
+        } = self;
+        drop((register, lock, ready, left_over));
+    }
+}
+
+impl<W: AsyncWork> Model for AsyncBook<W> {
+    ghost use Rattle.std.specs.Prelude.{◌≡◌, []};
+    ghost use Rattle.std.specs.Arc.{arc_value};
+    ghost use Rattle.ready_deques.specs.Lists.{tag_of};
+    ghost use Rattle.keyed_lock.specs.Locks.{made_with};
+    ghost use Rattle.async_tasks.specs.AsyncBooks.{AsyncBookState, async_book_state, counts_of};
+
+    ghost Value = { AsyncBookState };
+
+    ghost view = { λ b. async_book_state b.register (made_with b.lock).callers
+        (counts_of (arc_value b.ready)) };
+
+    ghost invariant = { λ b. ((made_with b.lock).register ≡ b.register)
+        × (tag_of (arc_value b.ready) ≡ []) };
+}
+
+impl<W: AsyncWork> AsyncBook<W> {
+    #[tactic(auto, using(crate::proofs::Keys::same_register, crate::proofs::Keys::below_callers, crate::proofs::Keys::ticket_of, crate::proofs::Keys::held_by))]
+    /// Adds a task, which runs after these tasks, and returns its number. It may wait for the book.
+    ///
+    /// Each call looks into the book, and the pass has then seen all of its rows. After an `Err` nothing was added,
+    /// and the work is handed back: `Full` where the book has `MAX_TASKS`, else `NoSuch` for the first of the tasks
+    /// named that the book has not, else `NoMemory`.
+    pub fn add<R: Wait>(
+        &self,
+        rt: &R,
+        pass: &mut Pass<W>,
+        work: Arc<W>,
+        after: &[u32],
+    ) -> Result<u32, AddError<W>>
+        requires pass { IsPassOf self.now pass.old }
+        requires few { length after.now ≤ after_limit }
+        ensures pass { IsPassOf self.now pass.new }
+        ensures looks { LooksAgain pass.old pass.new }
+        ensures added { IfOk result (λ id. HasAdded pass.old id after.now pass.new) }
+        ensures not_added { OnErr result (kept pass.new ≡ kept pass.old) }
+        ensures refused { IfErr result (RefusesAdd (length (seen pass.new)) work after.now) }
+    {
+        let Some(ticket) = pass.ticket.take() else {
+            unreachable!()
+        };
+        let caller = pass.caller;
+        let Held {
+            value: mut state,
+            pass: lock_pass,
+        } = self.lock.take(rt);
+        let (ticket, answer) = state.add_for(&self.register, ticket, caller, work, after);
+        pass.ticket = Some(ticket);
+        self.inject_ready(rt, &mut state);
+        self.lock.put(Held {
+            value: state,
+            pass: lock_pass,
+        });
+        answer
+    }
+}
+
+impl<W: AsyncWork> AsyncBook<W> {
+    // Queues what is ready in the state, from outside.
+    fn inject_ready<R: Wait>(&self, rt: &R, state: &mut BookState<W>)
+        ensures { state.new ≡ state.old }
+    {
+        for _ in rt.forever() {
+            let Some(task) = state.take_ready() else {
+                return;
+            };
+            if self.ready.inject(rt, ReadyTask { task }).is_err() {
+                state.put_ready(task);
+                self.left_over.store(true, SeqCst);
+                return;
+            }
+        }
+        unreachable!()
+    }
+
+    // Queues what is ready in the state, in the deque of an owner. After an `Err` some is left over.
+    fn push_ready<R: Wait>(
+        &self,
+        rt: &R,
+        owner: &mut Owner<ReadyTask>,
+        state: &mut BookState<W>,
+    ) -> Result<(), NoMemory>
+        requires { owner.old.tag ≡ [] }
+        ensures state { state.new ≡ state.old }
+        ensures owner { owner.new ≡ owner.old }
+    {
+        for _ in rt.forever() {
+            let Some(task) = state.take_ready() else {
+                return Ok(());
+            };
+            if owner.push(rt, ReadyTask { task }).is_err() {
+                state.put_ready(task);
+                self.left_over.store(true, SeqCst);
+                return Err(NoMemory);
+            }
+        }
+        unreachable!()
+    }
+
+    #[tactic(auto, using(crate::proofs::Keys::same_register))]
+    /// Queues what is ready and was left over when the list had no room for it. Whether there may have been something.
+    pub(crate) fn push_left_over<R: Wait>(
+        &self,
+        rt: &R,
+        owner: &mut Owner<ReadyTask>,
+    ) -> Result<bool, NoMemory>
+        requires { owner.old.tag ≡ [] }
+        ensures { owner.new ≡ owner.old }
+    {
+        if !self.left_over.swap(false, SeqCst) {
+            return Ok(false);
+        }
+        let Held {
+            value: mut state,
+            pass,
+        } = self.lock.take(rt);
+        let pushed = self.push_ready(rt, owner, &mut state);
+        self.lock.put(Held { value: state, pass });
+        match pushed {
+            Ok(()) => Ok(true),
+            Err(error) => Err(error),
+        }
+    }
+
+    #[tactic(auto, using(crate::proofs::Keys::same_register))]
+    /// Starts a task. `None` where it may not start.
+    pub(crate) fn start<R: Wait>(&self, rt: &R, task: u32) -> Result<Option<Started<W>>, NoMemory>
+        ensures { IfOk result
+            (λ answer. IfSome answer (λ started. started.register ≡ self.now.register)) }
+    {
+        let Held {
+            value: mut state,
+            pass,
+        } = self.lock.take(rt);
+        let started = state.start_in(&self.register, task);
+        self.lock.put(Held { value: state, pass });
+        started
+    }
+
+    #[tactic(auto, using(crate::proofs::Keys::same_register))]
+    /// Ends a start with a value, and queues what is ready by that. After an `Err` the start stays open.
+    pub(crate) fn end<R: Wait>(
+        &self,
+        rt: &R,
+        owner: &mut Owner<ReadyTask>,
+        started: Started<W>,
+        value: Arc<W::V>,
+    ) -> Result<(), NoMemory>
+        requires owner { owner.old.tag ≡ [] }
+        requires started { started.register ≡ self.now.register }
+        requires answered { W.answers started.work started.ins (arc_value value) }
+        ensures { owner.new ≡ owner.old }
+    {
+        let Held {
+            value: mut state,
+            pass,
+        } = self.lock.take(rt);
+        let ended = state.end_in(&self.register, started, value);
+        let _ = self.push_ready(rt, owner, &mut state); // what is left over is queued by a later step
+        self.lock.put(Held { value: state, pass });
+        ended
+    }
+}
