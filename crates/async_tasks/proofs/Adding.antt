@@ -1,12 +1,11 @@
 -- An add keeps what holds of a book.
-use Rattle.std.proofs.Common.{◌≡◌, ◌≢◌, ◌⊎◌, inl, inr, ⊎_elim, ℕ, zero, suc, ◌+◌, ◌<◌, ◌≤◌, Bool, true, false, cond, List, [], ◌∷◌, ◌++◌, length, map, Option, Some, None, refl, sym, ap, ◌∙◌, subst, arith}
+use Rattle.std.proofs.Common.{◌≡◌, ◌≢◌, ◌⊎◌, inl, inr, ℕ, ◌<◌, ◌≤◌, Bool, true, false, cond, List, [], ◌∷◌, ◌++◌, length, map, Option, Some, None, refl, sym, ap, ◌∙◌, subst, arith}
 use Rattle.std.specs.Prelude.{slice_get, IsSomeAnd, nat_le}
 use Rattle.std.specs.Arc.{arc_value}
 use Rattle.std.specs.List.{AllByRecursion}
 use Rattle.std.proofs.lemmas.Bool.{cases_lt}
 use Rattle.std.proofs.lemmas.Bool.Decides.{nat_tests}
 use Rattle.std.proofs.lemmas.List.{length_push, append_assoc}
-use Rattle.journal_rules.specs.Entries.{EachAfter}
 use Rattle.journal_rules.proofs.Snoc.{EachAfter-push}
 use Rattle.atomic_table.specs.Seated.{TableId}
 use Rattle.async_tasks.specs.declared.history.AddRow.{AddRow}
@@ -15,12 +14,12 @@ use Rattle.async_tasks.specs.declared.history.TaskEvent.TheVariants.{Started, En
 use Rattle.async_tasks.specs.declared.outstanding.Outstanding.{Outstanding}
 use Rattle.async_tasks.specs.declared.outstanding.Outstanding.TheVariants.{Pass, Running}
 use Rattle.async_tasks.specs.declared.stage.Stage.{Stage}
-use Rattle.async_tasks.specs.declared.stage.Stage.TheVariants.{Waiting, Open, Over}
-use Rattle.async_tasks.specs.Histories.{times_started, times_ended, AllEnded, RowRule, EventRule, IsHistory, rows_of, found}
-use Rattle.async_tasks.specs.Books.{BookHistory, book_history, value_in, value_at, holder_of, caller_of, NothingOut}
+use Rattle.async_tasks.specs.declared.stage.Stage.TheVariants.{Waiting, Open}
+use Rattle.async_tasks.specs.Histories.{times_started, AllEnded, RowRule, EventRule, IsHistory, found}
+use Rattle.async_tasks.specs.Books.{BookHistory, book_history, value_in, value_at, caller_of, NothingOut}
 use Rattle.async_tasks.specs.Adds.{task_limit, first_unseen, next_row, with_add}
 use Rattle.async_tasks.specs.inside.Keeps.{StageFits, ItemFits, KeepsBook}
-use Rattle.async_tasks.proofs.Lists.{get_push_cases, get_in_range, get_past_end, get_kept, some_kept, some_at, all_map, all_push, each_map}
+use Rattle.async_tasks.proofs.Lists.{get_push_cases, get_in_range, get_past_end, get_kept, some_kept, all_push, each_map}
 use Rattle.async_tasks.proofs.Telling.{found_same, all_same, value_push, staged_push, rows_of_other}
 
 -- what may happen goes on to be allowed

@@ -1,5 +1,5 @@
 -- What the passes of a finished book have kept.
-use Rattle.std.proofs.Common.{◌≡◌, ◌∙◌, ℕ, suc, zero, List, [], ◌∷◌, map, Some, refl, sym, ap, subst}
+use Rattle.std.proofs.Common.{◌≡◌, ◌∙◌, ℕ, suc, List, [], ◌∷◌, map, Some, refl, ap, subst}
 use Rattle.std.specs.Prelude.{slice_get}
 use Rattle.std.specs.List.{AllByRecursion}
 use Rattle.atomic_table.specs.Seated.{TableId}
@@ -7,7 +7,7 @@ use Rattle.async_tasks.specs.declared.history.AddRow.{AddRow}
 use Rattle.async_tasks.specs.declared.run.AsyncRun.{AsyncRun}
 use Rattle.async_tasks.specs.Histories.{kept_row, kept_of}
 use Rattle.async_tasks.specs.Starts.{HasSeen}
-use Rattle.async_tasks.specs.Passes.{PassState, IsTicketOf, seen, kept}
+use Rattle.async_tasks.specs.Passes.{PassState, IsTicketOf, seen}
 use Rattle.async_tasks.specs.AsyncBooks.{AsyncBookState, ArePassesOf}
 use Rattle.async_tasks.specs.Runs.{IsAsyncRun}
 use Rattle.async_tasks.specs.Finishes.{IsDone, HaveSeen, HaveTickets}

@@ -1,16 +1,15 @@
 -- An end keeps what holds of a book.
-use Rattle.std.proofs.Common.{◌≡◌, ◌≢◌, ◌⊎◌, inl, inr, ℕ, zero, suc, ◌+◌, ◌<◌, ◌≤◌, List, [], ◌∷◌, ◌++◌, length, map, set, Option, Some, None, refl, sym, ap, ◌∙◌, subst, arith, length-set}
+use Rattle.std.proofs.Common.{◌≡◌, ◌≢◌, ◌⊎◌, inl, inr, ℕ, ◌+◌, ◌≤◌, List, [], ◌∷◌, ◌++◌, length, map, set, Option, Some, None, refl, sym, ap, ◌∙◌, subst, arith, length-set}
 use Rattle.std.specs.Prelude.{slice_get, IsSomeAnd}
 use Rattle.std.specs.Arc.{arc_value}
 use Rattle.std.specs.declared.alloc.Global.{Global}
 use Rattle.std.specs.declared.sync.Arc.{Arc}
-use Rattle.std.specs.List.{AllByRecursion}
 use Rattle.std.proofs.lemmas.Bool.{cases_eq}
 use Rattle.std.proofs.lemmas.List.{length_push}
 use Rattle.journal_rules.proofs.Snoc.{EachAfter-push}
 use Rattle.async_tasks.specs.declared.history.AddRow.{AddRow}
 use Rattle.async_tasks.specs.declared.history.TaskEvent.{TaskEvent}
-use Rattle.async_tasks.specs.declared.history.TaskEvent.TheVariants.{Started, Ended}
+use Rattle.async_tasks.specs.declared.history.TaskEvent.TheVariants.{Ended}
 use Rattle.async_tasks.specs.declared.outstanding.Outstanding.{Outstanding}
 use Rattle.async_tasks.specs.declared.outstanding.Outstanding.TheVariants.{Pass, Running}
 use Rattle.async_tasks.specs.declared.stage.Stage.{Stage}
@@ -21,7 +20,7 @@ use Rattle.async_tasks.specs.Adds.{with_end, with_items, EndsTask}
 use Rattle.async_tasks.specs.Starts.{OpenStart, IsTicketFor, open_start}
 use Rattle.atomic_table.specs.Seated.{TableId}
 use Rattle.async_tasks.specs.inside.Keeps.{StageFits, ItemFits, KeepsBook}
-use Rattle.async_tasks.proofs.Lists.{some_same, get_set_same, get_set_other, some_at, all_map, all_at}
+use Rattle.async_tasks.proofs.Lists.{some_same, get_set_same, get_set_other, some_at, all_map}
 use Rattle.async_tasks.proofs.Issuing.{keeps_redeem, nothing_left}
 use Rattle.async_tasks.proofs.Telling.{found_same, started_as_before, ended_here, ended_elsewhere, started_of_value}
 

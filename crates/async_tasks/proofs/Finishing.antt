@@ -1,5 +1,5 @@
 -- A book in which each task is over is a finished run.
-use Rattle.std.proofs.Common.{◌≡◌, ℕ, ◌+◌, ◌<◌, ◌≤◌, Bool, true, false, List, [], ◌∷◌, ◌++◌, length, map, Option, Some, None, refl, sym, ap, ◌∙◌, subst, arith}
+use Rattle.std.proofs.Common.{◌≡◌, ℕ, ◌<◌, true, List, [], length, map, Option, Some, None, refl, sym, ◌∙◌, arith}
 use Rattle.std.specs.Prelude.{slice_get, is_some}
 use Rattle.std.specs.Arc.{arc_value}
 use Rattle.std.specs.declared.alloc.Global.{Global}
@@ -13,7 +13,7 @@ use Rattle.async_tasks.specs.declared.outstanding.Outstanding.{Outstanding}
 use Rattle.async_tasks.specs.declared.stage.Stage.{Stage}
 use Rattle.async_tasks.specs.declared.stage.Stage.TheVariants.{Waiting, Open, Over}
 use Rattle.async_tasks.specs.Histories.{times_started, times_ended}
-use Rattle.async_tasks.specs.Books.{book_history, value_in, value_at}
+use Rattle.async_tasks.specs.Books.{book_history, value_in}
 use Rattle.async_tasks.specs.Runs.{IsAsyncRun}
 use Rattle.async_tasks.specs.inside.Ready.{is_over}
 use Rattle.async_tasks.specs.inside.Keeps.{StageFits, KeepsBook}

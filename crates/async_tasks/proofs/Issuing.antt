@@ -1,5 +1,5 @@
 -- What is outstanding, after a ticket was issued or redeemed.
-use Rattle.std.proofs.Common.{◌≡◌, ◌≢◌, ◌⊎◌, inl, inr, ℕ, zero, suc, ◌+◌, ◌<◌, ◌≤◌, List, [], ◌∷◌, ◌++◌, length, map, set, Option, Some, None, refl, sym, ap, ◌∙◌, subst, arith}
+use Rattle.std.proofs.Common.{◌≡◌, ◌≢◌, ◌⊎◌, inl, inr, ℕ, List, [], ◌∷◌, ◌++◌, length, set, Option, Some, None, sym, ap, ◌∙◌, subst}
 use Rattle.std.specs.Prelude.{slice_get}
 use Rattle.atomic_table.specs.Seated.{TableId}
 use Rattle.async_tasks.specs.declared.history.AddRow.{AddRow}
@@ -9,7 +9,7 @@ use Rattle.async_tasks.specs.declared.outstanding.Outstanding.{Outstanding}
 use Rattle.std.proofs.lemmas.List.{append-nil}
 use Rattle.async_tasks.specs.declared.outstanding.Outstanding.TheVariants.{Pass, Running}
 use Rattle.async_tasks.specs.Histories.{rows_of}
-use Rattle.async_tasks.specs.Starts.{IsPassFor, rows_seen, HasSeen, IsFreshPass}
+use Rattle.async_tasks.specs.Starts.{IsPassFor, rows_seen, HasSeen}
 use Rattle.async_tasks.specs.Books.{BookHistory, book_history, Holder, holder_of, caller_of, NothingOut}
 use Rattle.async_tasks.specs.Adds.{with_items}
 use Rattle.async_tasks.specs.inside.Keeps.{ItemFits, KeepsBook}

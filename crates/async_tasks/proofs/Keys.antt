@@ -1,5 +1,5 @@
 -- What the key of a book says of its table and its callers.
-use Rattle.std.proofs.Common.{◌≡◌, ℕ, ◌<◌, Option, Some, None, sym, ap, ◌∙◌, subst}
+use Rattle.std.proofs.Common.{◌≡◌, ℕ, ◌<◌, Option, Some, sym, ap, ◌∙◌, subst}
 use Rattle.atomic_table.specs.Seated.{TableId}
 use Rattle.tickets.specs.Books.{TicketState}
 use Rattle.async_tasks.specs.declared.outstanding.Outstanding.{Outstanding}

@@ -1,8 +1,8 @@
 -- What stands where in a list that has one item more, or another item at one place.
-use Rattle.std.proofs.Common.{◌≡◌, ◌≢◌, ◌⊎◌, inl, inr, ℕ, zero, suc, ◌<◌, ◌≤◌, Bool, true, false, ◌&&◌, List, [], ◌∷◌, ◌++◌, length, set, Option, Some, None, refl, sym, ap, ◌∙◌, subst, arith}
+use Rattle.std.proofs.Common.{◌≡◌, ◌≢◌, ◌⊎◌, inl, inr, ℕ, zero, suc, ◌<◌, ◌≤◌, Bool, true, false, ◌&&◌, List, [], ◌∷◌, ◌++◌, length, set, Option, Some, None, refl, ap, subst, arith}
 use Rattle.std.specs.Prelude.{slice_get, IsSomeAnd, IsTrue}
 use Rattle.std.specs.List.{AllByRecursion}
-use Rattle.journal_rules.specs.Entries.{EachAfterThese, EachAfter}
+use Rattle.journal_rules.specs.Entries.{EachAfterThese}
 
 pub some_same : {X : Type 0} {x y : X} → Some x ≡ Some y → x ≡ y
 some_same {X} {x} {y} e = ap from e

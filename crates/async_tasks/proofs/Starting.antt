@@ -4,20 +4,20 @@ use Rattle.std.specs.Prelude.{slice_get, IsSomeAnd, IsTrue, is_some}
 use Rattle.std.specs.Arc.{arc_value}
 use Rattle.std.specs.declared.alloc.Global.{Global}
 use Rattle.std.specs.declared.sync.Arc.{Arc}
-use Rattle.std.specs.List.{AllByRecursion, list_all}
+use Rattle.std.specs.List.{list_all}
 use Rattle.std.proofs.lemmas.Option.{slice_get-get_or}
 use Rattle.std.proofs.lemmas.Bool.{cases_eq, and_parts, false≢true}
 use Rattle.std.proofs.lemmas.List.{length_push}
 use Rattle.journal_rules.proofs.Snoc.{EachAfter-push}
 use Rattle.async_tasks.specs.declared.history.AddRow.{AddRow}
 use Rattle.async_tasks.specs.declared.history.TaskEvent.{TaskEvent}
-use Rattle.async_tasks.specs.declared.history.TaskEvent.TheVariants.{Started, Ended}
+use Rattle.async_tasks.specs.declared.history.TaskEvent.TheVariants.{Started}
 use Rattle.async_tasks.specs.declared.outstanding.Outstanding.{Outstanding}
 use Rattle.async_tasks.specs.declared.outstanding.Outstanding.TheVariants.{Pass, Running}
 use Rattle.async_tasks.specs.declared.stage.Stage.{Stage}
 use Rattle.async_tasks.specs.declared.stage.Stage.TheVariants.{Waiting, Open, Over}
 use Rattle.async_tasks.specs.Histories.{times_started, times_ended, AllEnded, EventRule, IsHistory, found}
-use Rattle.async_tasks.specs.Books.{BookHistory, book_history, value_in, value_at, holder_of, caller_of, task_of, NothingOut}
+use Rattle.async_tasks.specs.Books.{BookHistory, book_history, value_in, value_at, holder_of, task_of, NothingOut}
 use Rattle.async_tasks.specs.Adds.{CanStart, with_start, StartsTask}
 use Rattle.atomic_table.specs.Seated.{TableId}
 use Rattle.async_tasks.specs.Starts.{IsTicketFor, open_start}

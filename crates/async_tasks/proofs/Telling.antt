@@ -1,9 +1,8 @@
 -- What a task's counts, its value and its inputs are after a change.
-use Rattle.std.proofs.Common.{◌≡◌, ◌≢◌, ◌⊎◌, inl, inr, ℕ, zero, suc, ◌+◌, ◌<◌, ◌≤◌, Bool, true, false, cond, eqb, List, [], ◌∷◌, ◌++◌, length, map, set, Option, Some, None, refl, sym, ap, ◌∙◌, subst, arith}
-use Rattle.std.specs.Prelude.{slice_get, IsSomeAnd, filter}
+use Rattle.std.proofs.Common.{◌≡◌, ◌≢◌, ℕ, zero, suc, ◌+◌, true, false, cond, eqb, List, [], ◌∷◌, ◌++◌, set, Option, Some, None, refl, sym, ap, ◌∙◌, arith}
+use Rattle.std.specs.Prelude.{slice_get}
 use Rattle.std.specs.List.{AllByRecursion}
 use Rattle.std.specs.Option.{option_to_list}
-use Rattle.std.proofs.lemmas.Bool.{cases_eq}
 use Rattle.std.proofs.lemmas.Bool.Decides.{nat_tests}
 use Rattle.std.proofs.lemmas.List.{append-nil, append_assoc}
 use Rattle.std.proofs.lemmas.List.Elements.{filter-append}
@@ -13,10 +12,9 @@ use Rattle.async_tasks.specs.declared.history.TaskEvent.{TaskEvent}
 use Rattle.async_tasks.specs.declared.history.TaskEvent.TheVariants.{Started, Ended}
 use Rattle.async_tasks.specs.declared.stage.Stage.{Stage}
 use Rattle.async_tasks.specs.declared.stage.Stage.TheVariants.{Waiting, Open, Over}
-use Rattle.async_tasks.specs.Histories.{is_start_of, is_end_of, times_started, times_ended, AllEnded, rows_of, found}
+use Rattle.async_tasks.specs.Histories.{is_start_of, is_end_of, times_started, times_ended, rows_of, found}
 use Rattle.async_tasks.specs.Books.{value_in, value_at}
 use Rattle.async_tasks.specs.inside.Keeps.{StageFits}
-use Rattle.async_tasks.proofs.Lists.{get_set_same, get_set_other}
 
 -- the counts of tasks, after a start
 pub started_here : (events : List TaskEvent) (t : ℕ) → times_started (events ++ Started t ∷ []) t ≡ times_started events t + 1

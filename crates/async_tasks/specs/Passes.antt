@@ -1,14 +1,10 @@
 -- Passes of callers, as contracts see them.
-use Rattle.std.specs.Prelude.{◌≡◌, ℕ, ◌<◌, ◌≤◌, List, [], ◌∷◌, ◌++◌, length, Option, Some, None}
-use Rattle.std.specs.declared.alloc.Global.{Global}
-use Rattle.std.specs.declared.sync.Arc.{Arc}
+use Rattle.std.specs.Prelude.{◌≡◌, ℕ, ◌<◌, List, [], ◌++◌, Option, Some, None}
 use Rattle.atomic_table.specs.Seated.{TableId}
 use Rattle.tickets.specs.Books.{TicketState}
 use Rattle.async_tasks.specs.declared.history.AddRow.{AddRow}
 use Rattle.async_tasks.specs.declared.outstanding.Outstanding.{Outstanding}
-use Rattle.async_tasks.specs.declared.state.AddError.{AddError}
-use Rattle.async_tasks.specs.Histories.{rows_of, kept_of}
-use Rattle.async_tasks.specs.Adds.{RefusesAdd}
+use Rattle.async_tasks.specs.Histories.{kept_of}
 use Rattle.async_tasks.specs.Starts.{IsPassFor, rows_seen}
 
 -- whose pass it is, and its ticket

@@ -1,5 +1,4 @@
-use Rattle.std.proofs.Common.{rules, ◌∙◌, ◌++◌, ◌∷◌, [], sym, ap, subst, get_or, arith, take}
-use Rattle.std.specs.Arc.{arc_value}
+use Rattle.std.proofs.Common.{rules, ◌∙◌, ◌++◌, ◌∷◌, [], sym, ap, get_or, take}
 use Rattle.std.proofs.lemmas.List.{take_more}
 use Rattle.async_tasks.specs.Books.{value_at}
 use Rattle.async_tasks.specs.Histories.{found}

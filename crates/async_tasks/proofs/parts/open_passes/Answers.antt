@@ -1,7 +1,7 @@
-use Rattle.std.proofs.Common.{◌≡◌, ◌∙◌, ◌+◌, ◌++◌, ◌∷◌, [], ap, sym, length, subst, arith, Some, refl}
+use Rattle.std.proofs.Common.{◌≡◌, ◌∙◌, ◌+◌, ap, sym, length, subst, arith, Some}
 use Rattle.std.proofs.lemmas.List.{length_push}
 use Rattle.async_tasks.specs.Books.{BookHistory, key_of}
-use Rattle.async_tasks.specs.Passes.{pass_state, IsTicketOf}
+use Rattle.async_tasks.specs.Passes.{pass_state}
 use Rattle.async_tasks.specs.AsyncBooks.{AreFirstPasses}
 use Rattle.async_tasks.proofs.Beginning.{register_of, passes_push}
 use Rattle.async_tasks.proofs.parts.open_passes.Goals as goal

@@ -1,4 +1,4 @@
-use Rattle.std.proofs.Common.{◌≡◌, ◌∙◌, ◌++◌, ◌∷◌, [], ap, length}
+use Rattle.std.proofs.Common.{◌∙◌, ◌++◌, ap, length}
 use Rattle.std.specs.Arc.{arc_value}
 use Rattle.std.specs.Option.{option_to_list}
 use Rattle.ready_deques.specs.Lists.{IsOwnerOf}

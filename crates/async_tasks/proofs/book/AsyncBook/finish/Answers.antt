@@ -1,5 +1,4 @@
-use Rattle.std.proofs.Common.{rules, ◌≡◌, ◌∙◌, ap, sym}
-use Rattle.keyed_lock.specs.Locks.{made_with}
+use Rattle.std.proofs.Common.{rules, ◌∙◌, ap, sym}
 use Rattle.async_tasks.specs.Books.{BookHistory, BookKey}
 use Rattle.async_tasks.specs.AsyncBooks.{AsyncBookState}
 use Rattle.async_tasks.proofs.Closing.{tickets_at, is_done}

@@ -1,4 +1,4 @@
-use Rattle.std.proofs.Common.{refl, ◌≡◌, ◌∙◌, ap, sym}
+use Rattle.std.proofs.Common.{refl, ◌∙◌, ap}
 use Rattle.std.specs.Arc.{arc_value}
 use Rattle.keyed_lock.specs.Locks.{made_with}
 use Rattle.async_tasks.specs.Books.{BookHistory, BookKey}

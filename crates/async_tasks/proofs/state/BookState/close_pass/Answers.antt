@@ -1,4 +1,4 @@
-use Rattle.std.proofs.Common.{subst, ◌≡◌, ◌<◌, ◌∙◌, sym, ap, map, set, length, length-set, None, Some, List, Option, arith}
+use Rattle.std.proofs.Common.{subst, ◌≡◌, ◌∙◌, sym, ap, map, set, length, length-set, None, Some, List, Option, arith}
 use Rattle.std.specs.Arc.{arc_value}
 use Rattle.tickets.specs.Books.{BookState}
 use Rattle.async_tasks.specs.declared.outstanding.Outstanding.{Outstanding}

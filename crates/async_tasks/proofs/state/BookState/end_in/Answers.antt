@@ -1,10 +1,9 @@
-use Rattle.std.proofs.Common.{refl, subst, ◌≡◌, ◌<◌, ◌∙◌, ◌++◌, ◌∷◌, [], sym, ap, map}
+use Rattle.std.proofs.Common.{subst, ◌≡◌, ◌∙◌, sym, ap, map}
 use Rattle.std.specs.Arc.{arc_value}
-use Rattle.tickets.specs.Books.{BookState, TicketState}
+use Rattle.tickets.specs.Books.{BookState}
 use Rattle.async_tasks.specs.declared.outstanding.Outstanding.{Outstanding}
 use Rattle.async_tasks.specs.Books.{BookHistory, book_key}
 use Rattle.async_tasks.specs.Starts.{OpenStart}
-use Rattle.async_tasks.specs.Adds.{EndsTask}
 use Rattle.async_tasks.proofs.Starting.{keeps_at}
 use Rattle.async_tasks.proofs.Ending.{ended, ends, is_open}
 use Rattle.async_tasks.proofs.state.BookState.end_in.Goals as goal

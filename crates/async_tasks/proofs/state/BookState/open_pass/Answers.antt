@@ -1,10 +1,10 @@
-use Rattle.std.proofs.Common.{refl, subst, ◌≡◌, ◌∙◌, ◌++◌, ◌∷◌, [], sym, ap, map, Some, List, Option}
+use Rattle.std.proofs.Common.{refl, subst, ◌∙◌, sym, ap, map}
 use Rattle.std.specs.Arc.{arc_value}
 use Rattle.tickets.specs.Books.{BookState}
 use Rattle.async_tasks.specs.declared.outstanding.Outstanding.{Outstanding}
 use Rattle.async_tasks.specs.declared.outstanding.Outstanding.TheVariants.{Pass}
 use Rattle.async_tasks.specs.Books.{BookHistory, book_history, caller_of, NothingOut}
-use Rattle.async_tasks.proofs.Issuing.{issued, pass_fits, pass_holder, others_out}
+use Rattle.async_tasks.proofs.Issuing.{issued, pass_fits, others_out}
 use Rattle.async_tasks.proofs.state.BookState.open_pass.Goals as goal
 
 pub invariant_of-self : goal.invariant_of-self

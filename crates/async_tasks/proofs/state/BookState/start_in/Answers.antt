@@ -1,15 +1,14 @@
-use Rattle.std.proofs.Common.{refl, subst, ◌≡◌, ◌<◌, ◌∙◌, ◌++◌, ◌∷◌, [], sym, ap, map, length, arith, get_or, Some}
+use Rattle.std.proofs.Common.{refl, subst, ◌≡◌, ◌∙◌, sym, ap, map, arith}
 use Rattle.std.specs.Arc.{arc_value}
 use Rattle.std.proofs.lemmas.Bool.{false≢true}
 use Rattle.std.proofs.lemmas.List.{length-map}
-use Rattle.atomic_table.specs.Seated.{TableId}
 use Rattle.tickets.specs.Books.{BookState, TicketState}
 use Rattle.async_tasks.specs.declared.history.AddRow.{AddRow}
 use Rattle.async_tasks.specs.declared.outstanding.Outstanding.{Outstanding}
 use Rattle.async_tasks.specs.declared.outstanding.Outstanding.TheVariants.{Running}
 use Rattle.async_tasks.specs.Books.{BookHistory, book_key, value_at}
 use Rattle.async_tasks.specs.Histories.{found}
-use Rattle.async_tasks.specs.Adds.{CanStart, StartsTask}
+use Rattle.async_tasks.specs.Adds.{CanStart}
 use Rattle.async_tasks.proofs.Starting.{started, starts, not_ready, is_ready_of, ready_below, has_inputs, has_work_at, keeps_at}
 use Rattle.async_tasks.proofs.state.BookState.start_in.Goals as goal
 
