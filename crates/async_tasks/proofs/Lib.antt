@@ -9,3 +9,4 @@ mod Keys
 mod Finishing
 mod Beginning
 mod Closing
+pub mod Crossing

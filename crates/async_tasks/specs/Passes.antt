@@ -1,5 +1,5 @@
 -- Passes of callers, as contracts see them.
-use Rattle.std.specs.Prelude.{◌≡◌, ℕ, ◌<◌, List, [], ◌++◌, Option, Some, None}
+use Rattle.std.specs.Prelude.{◌≡◌, ℕ, ◌<◌, List, [], ◌++◌, Option, Some, None, IsSomeAnd}
 use Rattle.atomic_table.specs.Seated.{TableId}
 use Rattle.tickets.specs.Books.{TicketState}
 use Rattle.async_tasks.specs.declared.history.AddRow.{AddRow}
@@ -18,13 +18,11 @@ pass_state caller ticket = record { caller = caller; ticket = ticket }
 module _ {W V : Type 0} where
   -- it has a ticket of its caller
   abbrev pub IsHeld : ℕ → Option (TicketState (Outstanding W V)) → Type 0
-  IsHeld caller None = ⊥
-  IsHeld caller (Some ticket) = IsPassFor caller ticket.item
+  IsHeld caller ticket = IsSomeAnd ticket (λ (t : TicketState (Outstanding W V)). IsPassFor caller t.item)
 
   -- its ticket is of the book of this table
   abbrev pub IsTicketOf : TableId → Option (TicketState (Outstanding W V)) → Type 0
-  IsTicketOf register None = ⊥
-  IsTicketOf register (Some ticket) = ticket.register ≡ register
+  IsTicketOf register ticket = IsSomeAnd ticket (λ (t : TicketState (Outstanding W V)). t.register ≡ register)
 
   abbrev pub rows_in : Option (TicketState (Outstanding W V)) → List AddRow
   rows_in None = []

@@ -15,6 +15,7 @@ use std::sync::Wait;
 use tickets::Register;
 
 /// What finishing a book came to.
+#[derive(Drop)]
 pub enum Finished<W: AsyncWork> {
     /// Each task ended: the run.
     Done(AsyncRun<W>),

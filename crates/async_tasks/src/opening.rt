@@ -8,6 +8,7 @@ use crate::work::AsyncWork;
 use tickets::Register;
 
 /// The state of a new book, with the table of its tickets.
+#[derive(Drop)]
 pub struct Opening<W: AsyncWork> {
     pub register: Register<Outstanding<W, W::V>>,
     pub state: BookState<W>,

@@ -26,6 +26,7 @@ use tickets::Register;
 pub const MAX_CALLERS: u32 = 64;
 
 /// A new book, with a seat for each worker and a pass for each caller, at the caller's place.
+#[derive(Drop)]
 pub struct AsyncParts<W: AsyncWork> {
     pub book: AsyncBook<W>,
     pub seats: Vec<AsyncSeat>,
