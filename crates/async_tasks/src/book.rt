@@ -59,12 +59,12 @@ impl<W: AsyncWork> Model for AsyncBook<W> {
 }
 
 impl<W: AsyncWork> AsyncBook<W> {
-    #[tactic(auto, using(crate::proofs::Keys::same_register, crate::proofs::Keys::below_callers, crate::proofs::Keys::ticket_of, crate::proofs::Keys::held_by))]
     /// Adds a task, which runs after these tasks, and returns its number. It may wait for the book.
     ///
     /// Each call looks into the book, and the pass has then seen all of its rows. After an `Err` nothing was added,
     /// and the work is handed back: `Full` where the book has `MAX_TASKS`, else `NoSuch` for the first of the tasks
     /// named that the book has not, else `NoMemory`.
+    #[tactic(auto, using(crate::proofs::Keys::same_register, crate::proofs::Keys::below_callers, crate::proofs::Keys::ticket_of, crate::proofs::Keys::held_by))]
     pub fn add<R: Wait>(
         &self,
         rt: &R,
@@ -141,8 +141,8 @@ impl<W: AsyncWork> AsyncBook<W> {
         unreachable!()
     }
 
-    #[tactic(auto, using(crate::proofs::Keys::same_register))]
     /// Queues what is ready and was left over when the list had no room for it. Whether there may have been something.
+    #[tactic(auto, using(crate::proofs::Keys::same_register))]
     pub(crate) fn push_left_over<R: Wait>(
         &self,
         rt: &R,
@@ -166,8 +166,8 @@ impl<W: AsyncWork> AsyncBook<W> {
         }
     }
 
-    #[tactic(auto, using(crate::proofs::Keys::same_register))]
     /// Starts a task. `None` where it may not start.
+    #[tactic(auto, using(crate::proofs::Keys::same_register))]
     pub(crate) fn start<R: Wait>(&self, rt: &R, task: u32) -> Result<Option<Started<W>>, NoMemory>
         ensures { IfOk result
             (λ answer. IfSome answer (λ started. started.register ≡ self.now.register)) }
@@ -181,8 +181,8 @@ impl<W: AsyncWork> AsyncBook<W> {
         started
     }
 
-    #[tactic(auto, using(crate::proofs::Keys::same_register))]
     /// Ends a start with a value, and queues what is ready by that. After an `Err` the start stays open.
+    #[tactic(auto, using(crate::proofs::Keys::same_register))]
     pub(crate) fn end<R: Wait>(
         &self,
         rt: &R,

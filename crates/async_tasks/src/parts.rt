@@ -65,8 +65,8 @@ impl<W: AsyncWork> AsyncBook<W> {
     }
 }
 
-#[tactic(auto, using(crate::proofs::Beginning::register_of, crate::proofs::Beginning::passes_push))]
 // A pass for each caller of a new book.
+#[tactic(auto, using(crate::proofs::Beginning::register_of, crate::proofs::Beginning::passes_push))]
 fn open_passes<W: AsyncWork>(
     alloc: Global,
     register: &Register<Outstanding<W, W::V>>,

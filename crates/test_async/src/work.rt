@@ -71,8 +71,8 @@ pub struct Alone {
 }
 
 impl Alone {
-    #[tactic(auto, using(crate::proofs::OnePass::first_pass, crate::proofs::OnePass::first_seat))]
     /// A book without tasks.
+    #[tactic(auto, using(crate::proofs::OnePass::first_pass, crate::proofs::OnePass::first_seat))]
     pub fn new(alloc: Global) -> Result<Alone, NoMemory> {
         let AsyncParts {
             book,
@@ -112,8 +112,8 @@ impl Alone {
         self.seat.step(rt, &self.book)
     }
 
-    #[tactic(auto, using(crate::proofs::OnePass::only_pass))]
     /// Ends the book.
+    #[tactic(auto, using(crate::proofs::OnePass::only_pass))]
     pub fn finish<R: Wait>(self, rt: &R, alloc: Global) -> Result<Finished<AddTo>, NoMemory> {
         let Alone { book, pass, .. } = self;
         let mut passes = Vec::new(alloc);
