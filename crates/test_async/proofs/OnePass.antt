@@ -1,5 +1,5 @@
 -- A book with one caller and one worker has one pass and one seat.
-use Rattle.std.proofs.Common.{◌≡◌, ◌∙◌, ℕ, zero, suc, ◌<◌, List, [], ◌∷◌, length, get_or, Some, refl, sym, ap, subst, arith}
+use Rattle.std.proofs.Common.{◌≡◌, ◌∙◌, ℕ, zero, suc, ◌<◌, List, [], ◌∷◌, length, get_or, Some, sym, ap, subst, arith}
 use Rattle.std.specs.Prelude.{slice_get, All}
 use Rattle.std.proofs.lemmas.Option.{slice_get-get_or}
 use Rattle.ready_deques.specs.Lists.{OwnerState}
@@ -27,13 +27,3 @@ module _ {W V : Type 0} where
 
 pub first_seat : (book : AsyncBookState) (seats : List OwnerState) (seat : OwnerState) → All (IsSeatOf book) seats → length seats ≡ 1 → seat ≡ get_or seats 0 seat → IsSeatOf book seat
 first_seat book seats seat all one at = subst (IsSeatOf book) (sym at) (all 0 seat (omega (arith, one)))
-
--- both passes and both seats of a book with two of each
-pub each_pass : {W V : Type 0} (book : AsyncBookState) (passes : List (PassState W V)) (one other : PassState W V) → ArePassesOf book passes → passes ≡ one ∷ other ∷ [] → IsPassOf book one × IsPassOf book other
-each_pass book passes one other own same =
-    ((own.each 0 one (ap (λ ps. slice_get ps 0) same)).0, (own.each 1 other (ap (λ ps. slice_get ps 1) same)).0)
-
-pub each_seat : (book : AsyncBookState) (seats : List OwnerState) (one other : OwnerState) → All (IsSeatOf book) seats → seats ≡ one ∷ other ∷ [] → IsSeatOf book one × IsSeatOf book other
-each_seat book seats one other all same =
-    let both = subst (All (IsSeatOf book)) same all in
-    (both 0 one (omega arith), both 1 one (omega arith))

@@ -1,9 +1,6 @@
-//! Books of async tasks: what a book of sums comes to, what is refused, and two callers beside two stepping seats. There
-//! is nothing here but tests.
+//! Books of async tasks: what a book of sums comes to, and what is refused. There is nothing here but tests.
 #![tactic(auto)]
 
-#[cfg(test)]
-mod callers;
 #[cfg(test)]
 mod refusals;
 #[cfg(test)]

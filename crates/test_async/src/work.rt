@@ -1,5 +1,6 @@
 // Work of sums, and a book for one caller.
 ghost use Rattle.std.specs.Prelude.{◌≡◌, ◌≤◌, length};
+ghost use Rattle.std.proofs.Props.{props};
 ghost use Rattle.async_tasks.specs.AsyncBooks.{IsPassOf, IsSeatOf};
 
 use async_tasks::{
@@ -65,14 +66,13 @@ pub struct Alone {
     book: AsyncBook<AddTo>,
     pass: Pass<AddTo>,
     seat: AsyncSeat,
-    ghost pass_of: { IsPassOf book pass },
+    ghost pass_of: { IsPassOf book pass } by { Prim.hlevel props },
     ghost seat_of: { IsSeatOf book seat },
     ghost one_caller: { (book.callers ≡ 1) × (pass.caller ≡ 0) },
 }
 
 impl Alone {
     /// A book without tasks.
-    #[tactic(auto, using(crate::proofs::OnePass::first_pass, crate::proofs::OnePass::first_seat))]
     pub fn new(alloc: Global) -> Result<Alone, NoMemory> {
         let AsyncParts {
             book,
