@@ -5,7 +5,7 @@ ghost use Rattle.grain_tasks.specs.ChunkWork.{RefusesJob, TakesJob, chunk_work};
 ghost use Rattle.grain_tasks.specs.Folds.{plain_fold};
 ghost use Rattle.grain_tasks.specs.inside.Gathering.{AreChunkValues, EndWithChunks};
 
-use crate::chunk::{chunk_at, fold_chunk};
+use crate::chunk::chunk_at;
 use crate::chunk_values::ChunkValues;
 use crate::errors::GrainError;
 use crate::fold::Fold;
@@ -107,7 +107,7 @@ where
         _ins: &Ins<F::V>,
     ) -> Result<Done<ChunkJob<F>>, JobError> {
         let chunk = chunk_at(self.count, self.grain, task as u64);
-        match fold_chunk(alloc, &*self.fold, chunk) {
+        match self.fold.fold_chunk(alloc, chunk) {
             Ok(value) => Ok(Done::Value(value, Answer::All)),
             Err(NoMemory) => Err(JobError::NoMemory),
         }
@@ -172,7 +172,7 @@ fn join_values<F: Fold>(
         let Some(next) = values.get(task as usize) else {
             unreachable!()
         };
-        value = fold.join(alloc, &value, next)?;
+        value = fold.join(alloc, value, next)?;
     }
     Ok(value)
 }

@@ -1,8 +1,9 @@
 // Folds.
-ghost use Rattle.std.specs.Prelude.{◌≡◌, ◌<◌, IfOk};
-ghost use Rattle.grain_tasks.specs.Chunks.{JoinsChunks};
+ghost use Rattle.std.specs.Prelude.{◌≡◌, ◌<◌, ◌≤◌, IfOk};
+ghost use Rattle.grain_tasks.specs.Chunks.{JoinsChunks, chunk_fold};
 ghost use Rattle.grain_tasks.specs.Folds.{Folding, IsLawful};
 
+use crate::chunk::Chunk;
 use outside_io::NoMemory;
 use std::alloc::Global;
 
@@ -27,11 +28,26 @@ pub trait Fold {
         requires { index < folding.count self.now }
         ensures { IfOk result (λ v. v ≡ folding.at self.now index) };
 
-    /// Joins two allowed values, of which the left one is of lower indices.
-    fn join(&self, alloc: Global, left: &Self::V, right: &Self::V) -> Result<Self::V, NoMemory>
-        requires left { folding.allowed self.now left.now }
+    /// Joins two allowed values, of which the left one is of lower indices. A list that is the left one can be added to.
+    fn join(&self, alloc: Global, left: Self::V, right: &Self::V) -> Result<Self::V, NoMemory>
+        requires left { folding.allowed self.now left }
         requires right { folding.allowed self.now right.now }
-        ensures { IfOk result (λ v. v ≡ folding.join self.now left.now right.now) };
+        ensures { IfOk result (λ v. v ≡ folding.join self.now left right.now) };
+
+    /// The unit joined with the values at the indices of a chunk, in order: one by one, unless a fold of this type knows
+    /// a faster way.
+    #[tactic(auto, using(crate::proofs::FoldLemmas::fold_from_more, crate::proofs::FoldLemmas::fold_from_none))]
+    fn fold_chunk(&self, alloc: Global, chunk: Chunk) -> Result<Self::V, NoMemory>
+        requires order { chunk.from ≤ chunk.to }
+        requires within { chunk.to ≤ folding.count self.now }
+        ensures { IfOk result (λ v. v ≡ chunk_fold folding self.now chunk) }
+    {
+        let mut value = self.unit(alloc)?;
+        for index in chunk.from..chunk.to {
+            value = self.join(alloc, value, &self.at(alloc, index)?)?;
+        }
+        Ok(value)
+    }
 
     /// Each fold keeps the laws.
     ghost lawful: { (f : Self) → IsLawful folding f };

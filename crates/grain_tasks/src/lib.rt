@@ -32,7 +32,7 @@ mod reduce;
 mod row;
 mod row_view;
 
-pub use chunk::{Chunk, fold_chunk};
+pub use chunk::Chunk;
 pub use chunk_job::ChunkJob;
 pub use errors::GrainError;
 pub use fold::{Fold, chunks_join};

@@ -6,7 +6,7 @@ ghost use Rattle.grain_tasks.specs.Folds.{joined, plain_fold};
 ghost use Rattle.grain_tasks.specs.Rows.{RefusesRow};
 ghost use Rattle.grain_tasks.specs.inside.Folding.{AreAllowed, AreFoldedParts, IsFoldedBy, begin_of, chunks_in, value_in};
 
-use crate::chunk::{Chunk, fold_chunk};
+use crate::chunk::Chunk;
 use crate::errors::GrainError;
 use crate::fold::Fold;
 use crate::row::{ChunkRow, Drained, Draw, Drawn, RowParts};
@@ -46,7 +46,7 @@ fn fold_draws<F: Fold>(
     loop {
         match row.draw(draw) {
             Drawn::Chunk(next, chunk) => {
-                let value = fold_chunk(alloc, fold, chunk)?;
+                let value = fold.fold_chunk(alloc, chunk)?;
                 parts.push(Part { chunk, value })?;
                 draw = next;
             }
@@ -102,7 +102,7 @@ fn join_in_order<F: Fold>(alloc: Global, fold: &F, parts: &[Part<F::V>]) -> Resu
 {
     let mut value = fold.unit(alloc)?;
     for part in parts {
-        value = fold.join(alloc, &value, &part.value)?;
+        value = fold.join(alloc, value, &part.value)?;
     }
     Ok(value)
 }

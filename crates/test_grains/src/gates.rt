@@ -50,7 +50,7 @@ impl Fold for Gates {
         Ok(1)
     }
 
-    fn join(&self, _alloc: Global, left: &u64, right: &u64) -> Result<u64, NoMemory> {
+    fn join(&self, _alloc: Global, left: u64, right: &u64) -> Result<u64, NoMemory> {
         Ok(left.saturating_add(*right))
     }
 

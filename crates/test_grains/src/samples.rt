@@ -1,6 +1,4 @@
 // Sample folds.
-ghost use Rattle.std.specs.Prelude.{◌≡◌, ◌++◌, IfOk};
-
 use grain_tasks::Fold;
 use outside_io::{List, NoMemory};
 use std::alloc::Global;
@@ -30,7 +28,7 @@ impl Fold for Sum {
         Ok(self.numbers.as_slice()[index as usize])
     }
 
-    fn join(&self, _alloc: Global, left: &u64, right: &u64) -> Result<u64, NoMemory> {
+    fn join(&self, _alloc: Global, left: u64, right: &u64) -> Result<u64, NoMemory> {
         Ok(left.saturating_add(*right))
     }
 
@@ -66,10 +64,11 @@ impl Fold for Doubles {
     fn join(
         &self,
         _alloc: Global,
-        left: &List<u64>,
+        mut left: List<u64>,
         right: &List<u64>,
     ) -> Result<List<u64>, NoMemory> {
-        joined(left, right)
+        left.add_all(right.as_slice())?;
+        Ok(left)
     }
 
     ghost lawful = { doubling_lawful };
@@ -103,20 +102,12 @@ impl Fold for Visits {
     fn join(
         &self,
         _alloc: Global,
-        left: &List<u64>,
+        mut left: List<u64>,
         right: &List<u64>,
     ) -> Result<List<u64>, NoMemory> {
-        joined(left, right)
+        left.add_all(right.as_slice())?;
+        Ok(left)
     }
 
     ghost lawful = { visiting_lawful };
-}
-
-// One list behind the other.
-fn joined(left: &List<u64>, right: &List<u64>) -> Result<List<u64>, NoMemory>
-    ensures { IfOk result (λ list. list ≡ left.now ++ right.now) }
-{
-    let mut list = left.copy()?;
-    list.add_all(right.as_slice())?;
-    Ok(list)
 }

@@ -9,11 +9,12 @@ use Rattle.std.proofs.lemmas.Slice.{between_to_end}
 use Rattle.std.proofs.lemmas.List.Edits.{length-between, get_or-between}
 use Rattle.memchr.specs.Find.{IsFirstByte, IsLastByte, is_byte}
 use Rattle.text_ops.specs.Lines.{line_end, lines_of, text_of, ended, IsNormal, IsPlain}
-use Rattle.text_ops.specs.inside.Cuts.{IsCut, end_count, LeftBehind, LeftBefore}
-use Rattle.text_ops.proofs.LineLemmas.{lines_of-append, lines_of-ended, text_of-lines_of, normal_same, count_by-lines_of, IsNormal-ended, IsNormal-drop}
+use Rattle.text_ops.specs.LineParts.{IsCut}
+use Rattle.text_ops.specs.inside.Cuts.{end_count, LeftBehind, LeftBefore}
+use Rattle.text_ops.proofs.LineLemmas.{lines_of-append, text_of-lines_of, normal_same, count_by-lines_of, ended_once, IsNormal-ended, IsNormal-drop}
 use Rattle.text_ops.proofs.WalkLemmas.{no_line, first_line_plain}
 
-end_count-append : (xs ys : List ℕ) → end_count (xs ++ ys) ≡ end_count xs + end_count ys
+pub end_count-append : (xs ys : List ℕ) → end_count (xs ++ ys) ≡ end_count xs + end_count ys
 end_count-append xs ys = sum_by-append (λ byte. cond (byte == line_end) 1 0) xs ys
 
 -- whole lines before a place cut the text
@@ -63,7 +64,7 @@ end_count-line : (text : List ℕ) (end : ℕ) → IsFirstByte (is_byte line_end
 end_count-line text end found =
     let line = take end text in
     let is : take (end + 1) text ≡ ended line = take_more text end 0 found.0.high ∙ ap (λ byte. line ++ byte ∷ []) (eqb-true _ line_end found.1) in
-    ap end_count is ∙ count_by-lines_of (ended line) (IsNormal-ended line) ∙ ap length (lines_of-ended line (first_line_plain text end found))
+    ap end_count is ∙ ended_once line (first_line_plain text end found)
 
 -- the next line end
 module _ (text : List ℕ) (n at left gap : ℕ) (so_far : LeftBehind text n at left) (found : IsFirstByte (is_byte line_end) (between at (length text) text) (Some gap)) where
@@ -111,7 +112,7 @@ end_count-split text place = sym (end_count-append (take place text) (drop place
 -- none in a line
 end_count-plain : (line : List ℕ) → IsPlain line → end_count line ≡ 0
 end_count-plain line plain =
-    let one = count_by-lines_of (ended line) (IsNormal-ended line) ∙ ap length (lines_of-ended line plain) in
+    let one = ended_once line plain in
     omega (arith, one, end_count-append line (line_end ∷ []))
 
 -- a block from the end back

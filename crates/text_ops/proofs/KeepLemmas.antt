@@ -12,9 +12,10 @@ use Rattle.std.specs.List.{onto_first, starts_with, between, AllByRecursion}
 use Rattle.memchr.specs.Find.{OccursAt, Nowhere, IsFirstByte, is_byte}
 use Rattle.memchr.proofs.lemmas.MatchLemmas.{OccursAt-split}
 use Rattle.text_ops.specs.Lines.{line_end, lines_of, ended, text_of, IsNormal, IsPlain, occurs, OccursIn}
+use Rattle.text_ops.specs.inside.Cuts.{end_count}
 use Rattle.text_ops.specs.inside.FoundLine.{StartsLine, EndsLine, IsFirstKept, IsNowhere}
 use Rattle.text_ops.specs.TextMeaning.{keep_meaning, without_meaning}
-use Rattle.text_ops.proofs.LineLemmas.{lines_of-at_end, lines_of-within, lines_of-append, lines_of-ended, text_of-lines_of, normal_same, IsNormal-ended}
+use Rattle.text_ops.proofs.LineLemmas.{lines_of-at_end, lines_of-within, lines_of-append, lines_of-ended, text_of-lines_of, normal_same, IsNormal-ended, ended_once}
 
 -- the test `occurs` says that the word stands in the line
 starts-true : (word line rest : List ℕ) → line ≡ word ++ rest → starts_with nat_eq line word ≡ true
@@ -301,6 +302,7 @@ module _ (word text : List ℕ) (place start end : ℕ) (plain : IsPlain word) (
         within = ends.within;
         before = starts.whole_lines;
         whole = subst IsNormal (sym line_ended) (IsNormal-ended line);
+        one = ap end_count line_ended ∙ ended_once line line_plain;
         kept =
             ap (keep_meaning word) three_parts
             ∙ keep_meaning-append word front (ended line ++ after) starts.whole_lines

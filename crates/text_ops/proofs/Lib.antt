@@ -24,3 +24,4 @@ pub mod FoundKeys
 pub mod MatchSteps
 pub mod HasWordLemmas
 pub mod LawLemmas
+pub mod WordLineLemmas

@@ -168,3 +168,7 @@ lines_of-text_of (line ∷ lines) plain =
     lines_of-append (ended line) (text_of lines) (IsNormal-ended line)
     ∙ ap (λ first. first ++ lines_of (text_of lines)) (lines_of-ended line plain.0)
     ∙ ap (λ more. line ∷ more) (lines_of-text_of lines plain.1)
+
+-- a line with its end has one line end
+pub ended_once : (line : List ℕ) → IsPlain line → count_by (λ byte. byte == line_end) (ended line) ≡ 1
+ended_once line plain = count_by-lines_of (ended line) (IsNormal-ended line) ∙ ap length (lines_of-ended line plain)

@@ -7,8 +7,7 @@ use Rattle.std.proofs.lemmas.List.Concat.{flat_map-append}
 use Rattle.std.specs.List.{between, flat_map, range_with_len}
 use Rattle.std.proofs.lemmas.List.FromFn.{map-range_with_len_more}
 use Rattle.text_ops.specs.Lines.{ended, lines_of, normal, text_of, IsNormal}
-use Rattle.text_ops.specs.LineParts.{line_part, line_parts, part_count}
-use Rattle.text_ops.specs.inside.Cuts.{IsCut}
+use Rattle.text_ops.specs.LineParts.{IsCut, line_part, line_parts, part_count}
 use Rattle.text_ops.specs.inside.Parting.{PartsSoFar}
 use Rattle.text_ops.proofs.CutLemmas.{text_before}
 use Rattle.text_ops.proofs.LineLemmas.{text_of-lines_of}

@@ -1,5 +1,5 @@
 -- What each operation makes of a text.
-use Rattle.std.specs.Prelude.{ℕ, ◌-◌, Bool, not, List, [], ◌∷◌, ◌++◌, length, filter, map, take, drop, decimal}
+use Rattle.std.specs.Prelude.{ℕ, ◌-◌, Bool, not, List, [], ◌∷◌, ◌++◌, length, filter, count_by, map, take, drop, decimal}
 use Rattle.std.specs.List.{list_any}
 use Rattle.text_ops.specs.Lines.{lines_of, text_of, occurs}
 use Rattle.text_ops.specs.LineOrder.{in_order}
@@ -62,3 +62,7 @@ match_meaning left right = text_of (matched (lines_of left) (lines_of right))
 -- Whether the word occurs in some line.
 abbrev pub has_word : List ℕ → List ℕ → Bool
 has_word word text = list_any (occurs word) (lines_of text)
+
+-- In how many lines the word occurs.
+abbrev pub word_lines : List ℕ → List ℕ → ℕ
+word_lines word text = count_by (occurs word) (lines_of text)

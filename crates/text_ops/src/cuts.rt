@@ -3,7 +3,8 @@ ghost use Rattle.std.specs.Prelude.{◌≡◌, ◌-◌, ◌<◌, ◌≤◌, leng
 ghost use Rattle.text_ops.specs.Lines.{IsNormal, lines_of};
 ghost use Rattle.text_ops.specs.TextMeaning.{head_meaning, skip_meaning, tail_meaning};
 ghost use Rattle.text_ops.specs.Values.{Makes};
-ghost use Rattle.text_ops.specs.inside.Cuts.{IsCut, LeftBehind, LeftBefore};
+ghost use Rattle.text_ops.specs.LineParts.{IsCut};
+ghost use Rattle.text_ops.specs.inside.Cuts.{LeftBehind, LeftBefore};
 
 use crate::gathered::ApplyError;
 use crate::line_ends::{BLOCK, block_line_ends};
@@ -40,8 +41,8 @@ pub fn tail(text: &Text, n: u64) -> Result<Text, ApplyError>
     part(text, start, bytes.len())
 }
 
-// Where the first lines end.
-pub(crate) fn end_of_first(text: &[u8], n: u64) -> usize
+/// Where the first `n` lines of a text end: at its end where there are no more.
+pub fn end_of_first(text: &[u8], n: u64) -> usize
     requires { IsNormal text.now }
     ensures { IsCut text.now n result }
 {

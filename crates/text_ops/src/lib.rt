@@ -30,9 +30,10 @@ mod sort_keys;
 mod tallies;
 mod text;
 mod text_parts;
+mod word_search;
 
 pub use counts::{count, count_line, line_count};
-pub use cuts::{head, skip, tail};
+pub use cuts::{end_of_first, head, skip, tail};
 pub use gathered::{ApplyError, VALUE_LIMIT};
 pub use joined::Joined;
 pub use kept_lines::{has_word, keep, without};
@@ -46,3 +47,4 @@ pub use repeats::uniq;
 pub use tallies::tally;
 pub use text::Text;
 pub use text_parts::{line_parts, part_count};
+pub use word_search::WordSearch;

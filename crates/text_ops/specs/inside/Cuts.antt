@@ -1,13 +1,6 @@
 -- Places between lines.
 use Rattle.std.specs.Prelude.{◌≡◌, ℕ, ◌+◌, ◌<◌, ◌≤◌, ◌==◌, List, length, take, drop, count_by}
-use Rattle.text_ops.specs.Lines.{line_end, lines_of, IsNormal}
-
--- The first n lines end at this place, or all lines where there are fewer.
-pub record IsCut (text : List ℕ) (n place : ℕ) : Type 0 where
-  pub within : place ≤ length text
-  pub whole : IsNormal (take place text)
-  pub before : take n (lines_of text) ≡ lines_of (take place text)
-  pub behind : drop n (lines_of text) ≡ lines_of (drop place text)
+use Rattle.text_ops.specs.Lines.{line_end}
 
 -- how many line ends there are
 abbrev pub end_count : List ℕ → ℕ

@@ -2,6 +2,7 @@
 use Rattle.std.specs.Prelude.{◌≡◌, ◌≢◌, ℕ, ◌+◌, ◌-◌, ◌<◌, ◌≤◌, List, [], ◌++◌, length, take, drop, slice_index, slice_range}
 use Rattle.text_ops.specs.declared.found_line.FoundLine.{FoundLine}
 use Rattle.text_ops.specs.Lines.{line_end, IsNormal, IsPlain}
+use Rattle.text_ops.specs.inside.Cuts.{end_count}
 use Rattle.text_ops.specs.TextMeaning.{keep_meaning, without_meaning}
 
 -- The line that this place is in starts here.
@@ -28,6 +29,7 @@ pub record IsFirstKept (word text : List ℕ) (line : FoundLine) : Type 0 where
   pub within : line.end ≤ length text
   pub before : IsNormal (take line.start text)
   pub whole : IsNormal (slice_range text line.start line.end)
+  pub one : end_count (slice_range text line.start line.end) ≡ 1
   pub kept : keep_meaning word text ≡ slice_range text line.start line.end ++ keep_meaning word (drop line.end text)
   pub others : without_meaning word text ≡ take line.start text ++ without_meaning word (drop line.end text)
 

@@ -1,6 +1,6 @@
 use Rattle.std.proofs.Common.{◌-◌, subst, length}
 use Rattle.text_ops.specs.Lines.{lines_of}
-use Rattle.text_ops.specs.inside.Cuts.{IsCut}
+use Rattle.text_ops.specs.LineParts.{IsCut}
 use Rattle.text_ops.specs.Values.{Makes}
 use Rattle.text_ops.proofs.CutLemmas.{part_behind, IsNormal-behind}
 use Rattle.text_ops.proofs.cuts.tail.Goals as goal

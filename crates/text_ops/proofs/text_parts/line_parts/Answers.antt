@@ -2,7 +2,7 @@ use Rattle.std.proofs.Common.{◌≡◌, ◌+◌, ◌∙◌, List, ℕ, [], ◌�
 use Rattle.std.specs.List.{between}
 use Rattle.std.proofs.lemmas.Slice.{between_to_end}
 use Rattle.text_ops.specs.Lines.{IsNormal}
-use Rattle.text_ops.specs.inside.Cuts.{IsCut}
+use Rattle.text_ops.specs.LineParts.{IsCut}
 use Rattle.text_ops.specs.inside.Parting.{PartsSoFar}
 use Rattle.text_ops.proofs.CutLemmas.{IsNormal-behind}
 use Rattle.text_ops.proofs.PartLemmas.{PartsSoFar-next}
