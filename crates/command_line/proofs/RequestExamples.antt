@@ -1,14 +1,14 @@
 -- Command lines and what they ask for, computed.
 use Rattle.std.proofs.Common.{◌≡◌, refl, arith, codes, Some, None, [], ◌∷◌, List, ℕ, true, false}
 use Rattle.std.specs.Borrow.{Bor}
-use Rattle.command_line.specs.declared.request.Request.TheVariants.{Run, Profile, Judge, Check, Upgrade, Generate}
+use Rattle.command_line.specs.declared.request.Request.TheVariants.{Run, Profile, Judge, Check, Upgrade, Generate, Count}
 use Rattle.command_line.specs.declared.options.RunOptions.{RunOptions}
 use Rattle.command_line.specs.declared.rounds.Rounds.TheVariants.{Once, Times, Until}
 use Rattle.command_line.specs.Asked.{asked}
 use Rattle.command_line.specs.Rounds.{asked_rounds}
 use Rattle.clap.proofs.OnLiterals.{clap_on_literals}
 use Rattle.command_line.specs.Numbers.{number_in}
-use Rattle.command_line.specs.Requests.{once, times, until, most_rounds, run, profile, judge, check, upgrade, generate, asked_by, limit_by, workers_by, rounds_by, runs_app, run_app, profile_app, judge_app, check_app, upgrade_app, generate_app}
+use Rattle.command_line.specs.Requests.{once, times, until, most_rounds, run, profile, judge, check, upgrade, generate, count, asked_by, grain_by, limit_by, workers_by, rounds_by, runs_app, run_app, profile_app, judge_app, check_app, upgrade_app, generate_app, count_app}
 
 -- Numbers have 1 to 7 digits and nothing else, and are in their range.
 least : number_in 1 1000000 (codes "1") ≡ Some 1
@@ -331,6 +331,43 @@ limit_of_a_generated_graph : asked_by (codes "generate" ∷ codes "1" ∷ codes 
 unfolding clap_on_literals runs_app run_app profile_app judge_app check_app upgrade_app generate_app
 limit_of_a_generated_graph = refl
 
+-- The lines in which a word occurs, in chunks of 1 to 1,000,000 lines, and the workers that count them.
+counted : asked_by (codes "count" ∷ codes "w" ∷ codes "t" ∷ []) ≡ Some (count (codes "w") (codes "t") 1000 4)
+unfolding clap_on_literals runs_app run_app profile_app judge_app check_app upgrade_app generate_app count_app
+counted = refl
+
+counted_by_one : asked_by (codes "count" ∷ codes "w" ∷ codes "t" ∷ codes "--grain" ∷ codes "1" ∷ codes "--workers" ∷ codes "1" ∷ []) ≡ Some (count (codes "w") (codes "t") 1 1)
+unfolding clap_on_literals runs_app run_app profile_app judge_app check_app upgrade_app generate_app count_app
+counted_by_one = refl
+
+greatest_chunks : asked_by (codes "count" ∷ codes "" ∷ codes "t" ∷ codes "--grain=1000000" ∷ []) ≡ Some (count [] (codes "t") 1000000 4)
+unfolding clap_on_literals runs_app run_app profile_app judge_app check_app upgrade_app generate_app count_app
+greatest_chunks = refl
+
+no_lines_a_chunk : asked_by (codes "count" ∷ codes "w" ∷ codes "t" ∷ codes "--grain" ∷ codes "0" ∷ []) ≡ None
+unfolding clap_on_literals runs_app run_app profile_app judge_app check_app upgrade_app generate_app count_app
+no_lines_a_chunk = refl
+
+past_the_lines_of_a_chunk : asked_by (codes "count" ∷ codes "w" ∷ codes "t" ∷ codes "--grain" ∷ codes "1000001" ∷ []) ≡ None
+unfolding clap_on_literals runs_app run_app profile_app judge_app check_app upgrade_app generate_app count_app
+past_the_lines_of_a_chunk = refl
+
+lines_of_a_chunk_missing : asked_by (codes "count" ∷ codes "w" ∷ codes "t" ∷ codes "--grain" ∷ []) ≡ None
+unfolding clap_on_literals runs_app run_app profile_app judge_app check_app upgrade_app generate_app count_app
+lines_of_a_chunk_missing = refl
+
+lines_of_a_chunk_twice : asked_by (codes "count" ∷ codes "w" ∷ codes "t" ∷ codes "--grain" ∷ codes "1" ∷ codes "--grain" ∷ codes "1" ∷ []) ≡ None
+unfolding clap_on_literals runs_app run_app profile_app judge_app check_app upgrade_app generate_app count_app
+lines_of_a_chunk_twice = refl
+
+no_text_to_count_in : asked_by (codes "count" ∷ codes "w" ∷ []) ≡ None
+unfolding clap_on_literals runs_app run_app profile_app judge_app check_app upgrade_app generate_app count_app
+no_text_to_count_in = refl
+
+past_the_workers_of_a_count : asked_by (codes "count" ∷ codes "w" ∷ codes "t" ∷ codes "--workers" ∷ codes "17" ∷ []) ≡ None
+unfolding clap_on_literals runs_app run_app profile_app judge_app check_app upgrade_app generate_app count_app
+past_the_workers_of_a_count = refl
+
 another_spelling : asked_by (codes "Check" ∷ codes "g" ∷ []) ≡ None
 another_spelling = refl
 
@@ -361,3 +398,6 @@ module _ (file journal word : Bor (List ℕ)) where
 
   asks_for_a_generated_graph : asked (Generate (record { layers = 3; workers = 2; within_layers = (omega arith, omega arith); some_workers = (omega arith, omega arith) })) ≡ generate 3 2
   asks_for_a_generated_graph = refl
+
+  asks_for_a_count : asked (Count (record { word = word; file = file; grain = 7; workers = 2; within_grain = (omega arith, omega arith); some_workers = (omega arith, omega arith) })) ≡ count word.now file.now 7 2
+  asks_for_a_count = refl

@@ -6,7 +6,7 @@ use Rattle.clap.specs.Walk.{Row, Rule}
 use Rattle.clap.specs.Words.{App, Kinds, first_of, matches_of, fault_of, new_app, new_rule, with_rule}
 use Rattle.clap.specs.declared.builder.action.ArgAction.TheVariants.{SetTrue}
 use Rattle.clap.specs.Simple.{on_top}
-use Rattle.command_line.specs.declared.numbers.TheConstants.{DEFAULT_LIMIT, DEFAULT_WORKERS, GREATEST_LAYERS, GREATEST_LIMIT, GREATEST_TIMES, GREATEST_WORKERS}
+use Rattle.command_line.specs.declared.numbers.TheConstants.{DEFAULT_GRAIN, DEFAULT_LIMIT, DEFAULT_WORKERS, GREATEST_GRAIN, GREATEST_LAYERS, GREATEST_LIMIT, GREATEST_TIMES, GREATEST_WORKERS}
 use Rattle.command_line.specs.Numbers.{number_in}
 
 -- How often a graph is run: once, where nothing is said; so many times; or until a round passes on a line in which a word
@@ -25,7 +25,8 @@ most_rounds (until word) = GREATEST_TIMES
 -- What is asked for: to run the graph in a file, with at most so many starts a round, by so many workers and so often, and
 -- to write the journals in place of the reports or not; to run it so and count what each task did; to judge the journal in
 -- another file, which may have so many starts; to find how the graph in a file can go wrong; to write the graph in a file
--- as a file of the newest version; or to run a generated graph of so many layers, by so many workers.
+-- as a file of the newest version; to run a generated graph of so many layers, by so many workers; or to count the lines
+-- of a text in which a word occurs, in chunks of so many lines, by so many workers.
 pub data Asked : Type 0 where
   run : List ℕ → ℕ → ℕ → AskedRounds → Bool → Asked
   profile : List ℕ → ℕ → ℕ → AskedRounds → Asked
@@ -33,6 +34,7 @@ pub data Asked : Type 0 where
   check : List ℕ → Asked
   upgrade : List ℕ → Asked
   generate : ℕ → ℕ → Asked
+  count : List ℕ → List ℕ → ℕ → ℕ → Asked
 
 -- a command of this name that reads no name of a program, and of itself has no flag
 abbrev pub command_named : List ℕ → App
@@ -76,6 +78,10 @@ upgrade_app = with_rule (command_named (codes "upgrade")) (required (codes "file
 unfoldable pub generate_app : App
 generate_app = with_rule (with_rule (command_named (codes "generate")) (required (codes "layers"))) (option (codes "workers"))
 
+-- `count WORD FILE [--grain N] [--workers N]`
+unfoldable pub count_app : App
+count_app = with_rule (with_rule (with_rule (with_rule (command_named (codes "count")) (required (codes "word"))) (required (codes "file"))) (option (codes "grain"))) (option (codes "workers"))
+
 -- what a command finds among the arguments, where it finds no fault with them
 abbrev pub rows_without : Kinds → List Row → Option (List Row)
 rows_without [] rows = Some rows
@@ -91,6 +97,10 @@ limit_by text = option_map_or (number_in 1 GREATEST_LIMIT) text (Some DEFAULT_LI
 -- the number of workers that an option's value asks for; without the option, the default
 abbrev pub workers_by : Option (List ℕ) → Option ℕ
 workers_by text = option_map_or (number_in 1 GREATEST_WORKERS) text (Some DEFAULT_WORKERS)
+
+-- the number of lines of a chunk that an option's value asks for, from 1 to 1,000,000; without the option, 1,000
+abbrev pub grain_by : Option (List ℕ) → Option ℕ
+grain_by text = option_map_or (number_in 1 GREATEST_GRAIN) text (Some DEFAULT_GRAIN)
 
 -- the rounds that the values of `--times`, from 0 to 1,000, and of `--until` ask for, of which one at most may be there
 abbrev pub rounds_by : Option (List ℕ) → Option (List ℕ) → Option AskedRounds
@@ -137,6 +147,11 @@ abbrev pub generate_in : List Row → Option Asked
 generate_in rows =
     option_and_then (λ layers. option_map (generate layers) (workers_by (first_of (codes "workers") rows))) (option_and_then (number_in 1 GREATEST_LAYERS) (first_of (codes "layers") rows))
 
+-- the count that is asked for
+abbrev pub count_in : List Row → Option Asked
+count_in rows =
+    option_and_then (λ word. option_and_then (λ file. option_and_then (λ grain. option_map (count word file grain) (workers_by (first_of (codes "workers") rows))) (grain_by (first_of (codes "grain") rows))) (first_of (codes "file") rows)) (first_of (codes "word") rows)
+
 -- What a command line asks for: its first argument names the command that reads the others.
 abbrev pub asked_by : List (List ℕ) → Option Asked
 asked_by [] = None
@@ -145,4 +160,5 @@ asked_by (command ∷ arguments) = if bytes_eq command (codes "run") then option
     else (if bytes_eq command (codes "judge") then option_and_then judge_in (rows_in judge_app arguments)
     else (if bytes_eq command (codes "check") then option_and_then check_in (rows_in check_app arguments)
     else (if bytes_eq command (codes "upgrade") then option_and_then upgrade_in (rows_in upgrade_app arguments)
-    else (if bytes_eq command (codes "generate") then option_and_then generate_in (rows_in generate_app arguments) else None)))))
+    else (if bytes_eq command (codes "generate") then option_and_then generate_in (rows_in generate_app arguments)
+    else (if bytes_eq command (codes "count") then option_and_then count_in (rows_in count_app arguments) else None))))))

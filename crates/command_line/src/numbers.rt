@@ -2,7 +2,7 @@
 ghost use Rattle.std.specs.Prelude.{◌≡◌, ◌↔◌, ◌<◌, ◌≤◌, All, IsTrue, IfSome, option_map};
 ghost use Rattle.std.specs.Char.{is_ascii_digit};
 ghost use Rattle.std.specs.Str.Parse.{digits_value};
-ghost use Rattle.command_line.specs.Requests.{limit_by, workers_by};
+ghost use Rattle.command_line.specs.Requests.{grain_by, limit_by, workers_by};
 ghost use Rattle.command_line.specs.Numbers.{number_in, is_short_number};
 
 /// The greatest number to which the starts of a run may be limited.
@@ -22,6 +22,12 @@ pub const GREATEST_TIMES: u64 = 1_000;
 
 /// The greatest number of layers of a generated graph.
 pub const GREATEST_LAYERS: u64 = 900;
+
+/// The greatest number of lines of a chunk.
+pub const GREATEST_GRAIN: u64 = 1_000_000;
+
+/// How many lines a chunk has where nothing is said.
+pub const DEFAULT_GRAIN: u64 = 1_000;
 
 /// The limit that an option's value asks for; without the option, the default.
 pub(crate) fn limit_of(text: Option<&str>) -> Option<u64>
@@ -45,6 +51,17 @@ pub(crate) fn workers_of(text: Option<&str>) -> Option<u32>
             Some(workers as u32)
         }
         None => Some(DEFAULT_WORKERS),
+    }
+}
+
+/// The number of lines of a chunk that an option's value asks for; without the option, the default.
+pub(crate) fn grain_of(text: Option<&str>) -> Option<u64>
+    ensures value { result ≡ grain_by (option_map (λ t. t.now) text.entry) }
+    ensures grain { IfSome result (λ grain. (1 ≤ grain) × (grain ≤ GREATEST_GRAIN)) }
+{
+    match text {
+        Some(text) => number_in(text, 1, GREATEST_GRAIN),
+        None => Some(DEFAULT_GRAIN),
     }
 }
 

@@ -5,6 +5,7 @@ ghost use Rattle.command_line.specs.Requests.{asked_by};
 ghost use Rattle.command_line.specs.Asked.{asked};
 
 use super::check::{Check, read_check};
+use super::count::{Count, read_count};
 use super::generate::{Generate, read_generate};
 use super::judge::{Judge, read_judge};
 use super::profile::{Profile, read_profile};
@@ -41,6 +42,7 @@ pub enum Request<'w> {
     Check(Check<'w>),
     Upgrade(Upgrade<'w>),
     Generate(Generate),
+    Count(Count<'w>),
 }
 
 /// What the arguments after the program's own name ask for. `Refused` comes exactly where they ask for nothing
@@ -66,6 +68,7 @@ pub fn read_arguments<'w>(
         "check" => Ok(Request::Check(read_check(alloc, rest)?)),
         "upgrade" => Ok(Request::Upgrade(read_upgrade(alloc, rest)?)),
         "generate" => Ok(Request::Generate(read_generate(alloc, rest)?)),
+        "count" => Ok(Request::Count(read_count(alloc, rest)?)),
         _ => Err(ArgumentsError::Refused),
     }
 }

@@ -15,14 +15,17 @@ use Rattle.call_status.specs.declared.status.Status.{Status}
 use Rattle.call_status.specs.declared.status.Status.TheVariants.{Done, BadWords, NoText, WriteFault, TaskFault, Limit, Stuck, NoMemory}
 use Rattle.call_status.specs.declared.stop.Stop.{Stop}
 use Rattle.call_status.specs.declared.stop.Stop.TheVariants as stop
-use Rattle.command_line.specs.Requests.{asked_by, once, run as run_of, profile as profile_of, judge as judge_of, check as check_of, upgrade as upgrade_of, generate as generate_of}
+use Rattle.command_line.specs.Requests.{asked_by, once, run as run_of, judge as judge_of, check as check_of, upgrade as upgrade_of, count as count_of}
 use Rattle.legal_run.specs.declared.verdict.Verdict.TheVariants.{Complete as Finished}
 use Rattle.flow_run.specs.declared.conclusion.Conclusion.TheVariants as conclusion
 use Rattle.flow_run.specs.declared.conclusion.GraphFindings.{GraphFindings}
 use Rattle.journal_rules.specs.declared.entry.Why.TheVariants.{Long as TooLong, OverRelease}
 use Rattle.nested_runs.specs.declared.reasons.Reason.TheVariants as reason
 use Rattle.flow_run.specs.Requests.{SourceTexts, StopsAtName, IsTextOf, TextsAre, StopsAtText, HasStart, StopsAtBytes, HasPlan, IsRequested, file_limit, text_limit}
-use Rattle.flow_run.specs.Answers.{TextRun, IsAfterRun, RunEnds, CallEnds, Reported}
+use Rattle.flow_run.specs.Answers.{AskedEnds, TextRun, IsAfterRun, RunEnds, CallEnds, Reported}
+use Rattle.flow_run.specs.Checks.{CheckEnds}
+use Rattle.flow_run.specs.Judgements.{JudgeEnds}
+use Rattle.flow_run.specs.Upgrades.{UpgradeEnds}
 use Rattle.call_status.specs.Statuses.{status_of}
 use Rattle.flow_run.proofs.RoundLemmas.{one_round}
 
@@ -255,116 +258,71 @@ never_bad (stop.ReadFault name) same = absurd (cc)
 never_bad (stop.BadJournal line) same = absurd (cc)
 never_bad stop.NoMemory same = absurd (cc)
 
-asked : (arguments : List (List ℕ)) → asked_by arguments ≡ Some (run_of g 77 4 once false) → ¬ CallEnds held arguments BadWords [] None
-asked arguments asks (inl (file, limit, workers, rounds, journal, asks_file, inl stopped, none)) = never_bad stopped.why stopped.reported
-asked arguments asks (inl (file, limit, workers, rounds, journal, asks_file, inr ran, none)) = not_after_run ran.after
-asked arguments asks (inr (inl (file, limit, workers, rounds, asks_profile, ends))) = let never : Some (run_of g 77 4 once false) ≡ Some (profile_of file limit workers rounds) = sym asks ∙ asks_profile in absurd (cc)
-asked arguments asks (inr (inr (inl (file, name, limit, asks_judge, ends, none)))) = let never : Some (run_of g 77 4 once false) ≡ Some (judge_of file name limit) = sym asks ∙ asks_judge in absurd (cc)
-asked arguments asks (inr (inr (inr (inl (file, asks_check, ends, none))))) = let never : Some (run_of g 77 4 once false) ≡ Some (check_of file) = sym asks ∙ asks_check in absurd (cc)
-asked arguments asks (inr (inr (inr (inr (inl (file, asks_upgrade, ends, none)))))) = let never : Some (run_of g 77 4 once false) ≡ Some (upgrade_of file) = sym asks ∙ asks_upgrade in absurd (cc)
-asked arguments asks (inr (inr (inr (inr (inr (inl (same, none, nothing, refused))))))) = let never : Some (run_of g 77 4 once false) ≡ None = sym asks ∙ refused in absurd (cc)
-asked arguments asks (inr (inr (inr (inr (inr (inr (inl (same, none, nothing)))))))) = absurd (cc)
-asked arguments asks (inr (inr (inr (inr (inr (inr (inr (layers, hands, asks_generate, ends, none)))))))) = let never : Some (run_of g 77 4 once false) ≡ Some (generate_of layers hands) = sym asks ∙ asks_generate in absurd (cc)
-
-asked_to_judge : (arguments : List (List ℕ)) → asked_by arguments ≡ Some (judge_of g t 77) → ¬ CallEnds held arguments BadWords [] None
-asked_to_judge arguments asks (inl (file, limit, workers, rounds, journal, asks_file, ends, none)) = let never : Some (judge_of g t 77) ≡ Some (run_of file limit workers rounds journal) = sym asks ∙ asks_file in absurd (cc)
-asked_to_judge arguments asks (inr (inl (file, limit, workers, rounds, asks_profile, ends))) = let never : Some (judge_of g t 77) ≡ Some (profile_of file limit workers rounds) = sym asks ∙ asks_profile in absurd (cc)
-asked_to_judge arguments asks (inr (inr (inl (file, name, limit, asks_judge, inl stopped, none)))) = never_bad stopped.why stopped.reported
-asked_to_judge arguments asks (inr (inr (inl (file, name, limit, asks_judge, inr ended, none)))) = let only : None ≡ Some (conclusion.Verdict ended.verdict) = ended.only in absurd (cc)
-asked_to_judge arguments asks (inr (inr (inr (inl (file, asks_check, ends, none))))) = let never : Some (judge_of g t 77) ≡ Some (check_of file) = sym asks ∙ asks_check in absurd (cc)
-asked_to_judge arguments asks (inr (inr (inr (inr (inl (file, asks_upgrade, ends, none)))))) = let never : Some (judge_of g t 77) ≡ Some (upgrade_of file) = sym asks ∙ asks_upgrade in absurd (cc)
-asked_to_judge arguments asks (inr (inr (inr (inr (inr (inl (same, none, nothing, refused))))))) = let never : Some (judge_of g t 77) ≡ None = sym asks ∙ refused in absurd (cc)
-asked_to_judge arguments asks (inr (inr (inr (inr (inr (inr (inl (same, none, nothing)))))))) = absurd (cc)
-asked_to_judge arguments asks (inr (inr (inr (inr (inr (inr (inr (layers, hands, asks_generate, ends, none)))))))) = let never : Some (judge_of g t 77) ≡ Some (generate_of layers hands) = sym asks ∙ asks_generate in absurd (cc)
-
-asked_to_check : (arguments : List (List ℕ)) → asked_by arguments ≡ Some (check_of g) → ¬ CallEnds held arguments BadWords [] None
-asked_to_check arguments asks (inl (file, limit, workers, rounds, journal, asks_file, ends, none)) = let never : Some (check_of g) ≡ Some (run_of file limit workers rounds journal) = sym asks ∙ asks_file in absurd (cc)
-asked_to_check arguments asks (inr (inl (file, limit, workers, rounds, asks_profile, ends))) = let never : Some (check_of g) ≡ Some (profile_of file limit workers rounds) = sym asks ∙ asks_profile in absurd (cc)
-asked_to_check arguments asks (inr (inr (inl (file, name, limit, asks_judge, ends, none)))) = let never : Some (check_of g) ≡ Some (judge_of file name limit) = sym asks ∙ asks_judge in absurd (cc)
-asked_to_check arguments asks (inr (inr (inr (inl (file, asks_check, inl stopped, none))))) = never_bad stopped.why stopped.reported
-asked_to_check arguments asks (inr (inr (inr (inl (file, asks_check, inr ended, none))))) = let only : None ≡ Some (conclusion.Findings ended.found) = ended.only in absurd (cc)
-asked_to_check arguments asks (inr (inr (inr (inr (inl (file, asks_upgrade, ends, none)))))) = let never : Some (check_of g) ≡ Some (upgrade_of file) = sym asks ∙ asks_upgrade in absurd (cc)
-asked_to_check arguments asks (inr (inr (inr (inr (inr (inl (same, none, nothing, refused))))))) = let never : Some (check_of g) ≡ None = sym asks ∙ refused in absurd (cc)
-asked_to_check arguments asks (inr (inr (inr (inr (inr (inr (inl (same, none, nothing)))))))) = absurd (cc)
-asked_to_check arguments asks (inr (inr (inr (inr (inr (inr (inr (layers, hands, asks_generate, ends, none)))))))) = let never : Some (check_of g) ≡ Some (generate_of layers hands) = sym asks ∙ asks_generate in absurd (cc)
-
-asked_to_upgrade : (arguments : List (List ℕ)) → asked_by arguments ≡ Some (upgrade_of g) → ¬ CallEnds held arguments BadWords [] None
-asked_to_upgrade arguments asks (inl (file, limit, workers, rounds, journal, asks_file, ends, none)) = let never : Some (upgrade_of g) ≡ Some (run_of file limit workers rounds journal) = sym asks ∙ asks_file in absurd (cc)
-asked_to_upgrade arguments asks (inr (inl (file, limit, workers, rounds, asks_profile, ends))) = let never : Some (upgrade_of g) ≡ Some (profile_of file limit workers rounds) = sym asks ∙ asks_profile in absurd (cc)
-asked_to_upgrade arguments asks (inr (inr (inl (file, name, limit, asks_judge, ends, none)))) = let never : Some (upgrade_of g) ≡ Some (judge_of file name limit) = sym asks ∙ asks_judge in absurd (cc)
-asked_to_upgrade arguments asks (inr (inr (inr (inl (file, asks_check, ends, none))))) = let never : Some (upgrade_of g) ≡ Some (check_of file) = sym asks ∙ asks_check in absurd (cc)
-asked_to_upgrade arguments asks (inr (inr (inr (inr (inl (file, asks_upgrade, inl stopped, none)))))) = never_bad stopped.why stopped.reported
-asked_to_upgrade arguments asks (inr (inr (inr (inr (inl (file, asks_upgrade, inr ended, none)))))) = let only : None ≡ Some (conclusion.GraphFile ended.text) = ended.only in absurd (cc)
-asked_to_upgrade arguments asks (inr (inr (inr (inr (inr (inl (same, none, nothing, refused))))))) = let never : Some (upgrade_of g) ≡ None = sym asks ∙ refused in absurd (cc)
-asked_to_upgrade arguments asks (inr (inr (inr (inr (inr (inr (inl (same, none, nothing)))))))) = absurd (cc)
-asked_to_upgrade arguments asks (inr (inr (inr (inr (inr (inr (inr (layers, hands, asks_generate, ends, none)))))))) = let never : Some (upgrade_of g) ≡ Some (generate_of layers hands) = sym asks ∙ asks_generate in absurd (cc)
-
-refused : (arguments : List (List ℕ)) → asked_by arguments ≡ None → CallEnds held arguments BadWords [] None
-refused arguments none = inr (inr (inr (inr (inr (inl (refl, refl, refl, none))))))
-
--- It keeps no run and comes to no conclusion, also where memory runs out.
-module _ (arguments : List (List ℕ)) (nothing : asked_by arguments ≡ None) where
-  run_of_nothing : (told : Status) (run : TextRun) → ¬ CallEnds held arguments told (run ∷ []) None
-  run_of_nothing told run (inl (file, limit, workers, rounds, journal, asks_file, ends, none)) = let never : None ≡ Some (run_of file limit workers rounds journal) = sym nothing ∙ asks_file in absurd (cc)
-  run_of_nothing told run (inr (inl (file, limit, workers, rounds, asks_profile, ends))) = let never : None ≡ Some (profile_of file limit workers rounds) = sym nothing ∙ asks_profile in absurd (cc)
-  run_of_nothing told run (inr (inr (inl (file, name, limit, asks_judge, ends, none)))) = let never : None ≡ Some (judge_of file name limit) = sym nothing ∙ asks_judge in absurd (cc)
-  run_of_nothing told run (inr (inr (inr (inl (file, asks_check, ends, none))))) = let never : None ≡ Some (check_of file) = sym nothing ∙ asks_check in absurd (cc)
-  run_of_nothing told run (inr (inr (inr (inr (inl (file, asks_upgrade, ends, none)))))) = let never : None ≡ Some (upgrade_of file) = sym nothing ∙ asks_upgrade in absurd (cc)
-  run_of_nothing told run (inr (inr (inr (inr (inr (inl (same, none, untold, refused))))))) = absurd (omega (arith, ap length none))
-  run_of_nothing told run (inr (inr (inr (inr (inr (inr (inl (same, none, untold)))))))) = absurd (omega (arith, ap length none))
-  run_of_nothing told run (inr (inr (inr (inr (inr (inr (inr (layers, hands, asks_generate, ends, none)))))))) = let never : None ≡ Some (generate_of layers hands) = sym nothing ∙ asks_generate in absurd (cc)
-
-  conclusion_of_nothing : (told : Status) → ¬ CallEnds held arguments told [] (Some (conclusion.Verdict Finished))
-  conclusion_of_nothing told (inl (file, limit, workers, rounds, journal, asks_file, ends, none)) = let never : None ≡ Some (run_of file limit workers rounds journal) = sym nothing ∙ asks_file in absurd (cc)
-  conclusion_of_nothing told (inr (inl (file, limit, workers, rounds, asks_profile, ends))) = let never : None ≡ Some (profile_of file limit workers rounds) = sym nothing ∙ asks_profile in absurd (cc)
-  conclusion_of_nothing told (inr (inr (inl (file, name, limit, asks_judge, ends, none)))) = let never : None ≡ Some (judge_of file name limit) = sym nothing ∙ asks_judge in absurd (cc)
-  conclusion_of_nothing told (inr (inr (inr (inl (file, asks_check, ends, none))))) = let never : None ≡ Some (check_of file) = sym nothing ∙ asks_check in absurd (cc)
-  conclusion_of_nothing told (inr (inr (inr (inr (inl (file, asks_upgrade, ends, none)))))) = let never : None ≡ Some (upgrade_of file) = sym nothing ∙ asks_upgrade in absurd (cc)
-  conclusion_of_nothing told (inr (inr (inr (inr (inr (inl (same, none, untold, refused))))))) = absurd (cc)
-  conclusion_of_nothing told (inr (inr (inr (inr (inr (inr (inl (same, none, untold)))))))) = absurd (cc)
-  conclusion_of_nothing told (inr (inr (inr (inr (inr (inr (inr (layers, hands, asks_generate, ends, none)))))))) = let never : None ≡ Some (generate_of layers hands) = sym nothing ∙ asks_generate in absurd (cc)
-
--- A run has no conclusion, and a judgement, a check and an upgrade keep no run.
 module _ (arguments : List (List ℕ)) where
+  asked : asked_by arguments ≡ Some (run_of g 77 4 once false) → ¬ CallEnds held arguments BadWords [] None
+  asked asks (inl ends) = by_end (subst (λ ask. AskedEnds held ask BadWords [] None) asks ends).0
+    where
+      by_end : ¬ RunEnds held g 77 once BadWords []
+      by_end (inl stopped) = never_bad stopped.why stopped.reported
+      by_end (inr ran) = not_after_run ran.after
+  asked asks (inr (memory, none, nothing)) = absurd (cc)
+
+  asked_to_judge : asked_by arguments ≡ Some (judge_of g t 77) → ¬ CallEnds held arguments BadWords [] None
+  asked_to_judge asks (inl ends) = by_end (subst (λ ask. AskedEnds held ask BadWords [] None) asks ends).0
+    where
+      by_end : ¬ JudgeEnds held g t 77 BadWords None
+      by_end (inl stopped) = never_bad stopped.why stopped.reported
+      by_end (inr ended) = let only : None ≡ Some (conclusion.Verdict ended.verdict) = ended.only in absurd (cc)
+  asked_to_judge asks (inr (memory, none, nothing)) = absurd (cc)
+
+  asked_to_check : asked_by arguments ≡ Some (check_of g) → ¬ CallEnds held arguments BadWords [] None
+  asked_to_check asks (inl ends) = by_end (subst (λ ask. AskedEnds held ask BadWords [] None) asks ends).0
+    where
+      by_end : ¬ CheckEnds held g BadWords None
+      by_end (inl stopped) = never_bad stopped.why stopped.reported
+      by_end (inr ended) = let only : None ≡ Some (conclusion.Findings ended.found) = ended.only in absurd (cc)
+  asked_to_check asks (inr (memory, none, nothing)) = absurd (cc)
+
+  asked_to_upgrade : asked_by arguments ≡ Some (upgrade_of g) → ¬ CallEnds held arguments BadWords [] None
+  asked_to_upgrade asks (inl ends) = by_end (subst (λ ask. AskedEnds held ask BadWords [] None) asks ends).0
+    where
+      by_end : ¬ UpgradeEnds held g BadWords None
+      by_end (inl stopped) = never_bad stopped.why stopped.reported
+      by_end (inr ended) = let only : None ≡ Some (conclusion.GraphFile ended.text) = ended.only in absurd (cc)
+  asked_to_upgrade asks (inr (memory, none, nothing)) = absurd (cc)
+
+  refused : asked_by arguments ≡ None → CallEnds held arguments BadWords [] None
+  refused none = inl (subst (λ ask. AskedEnds held ask BadWords [] None) (sym none) (refl, refl, refl))
+
+  -- It keeps no run and comes to no conclusion, also where memory runs out.
+  run_of_nothing : asked_by arguments ≡ None → (told : Status) (run : TextRun) → ¬ CallEnds held arguments told (run ∷ []) None
+  run_of_nothing nothing told run (inl ends) = let none : run ∷ [] ≡ [] = (subst (λ ask. AskedEnds held ask told (run ∷ []) None) nothing ends).1 in absurd (omega (arith, ap length none))
+  run_of_nothing nothing told run (inr (memory, none, untold)) = absurd (omega (arith, ap length none))
+
+  conclusion_of_nothing : asked_by arguments ≡ None → (told : Status) → ¬ CallEnds held arguments told [] (Some (conclusion.Verdict Finished))
+  conclusion_of_nothing nothing told (inl ends) = let none : Some (conclusion.Verdict Finished) ≡ None = (subst (λ ask. AskedEnds held ask told [] (Some (conclusion.Verdict Finished))) nothing ends).2 in absurd (cc)
+  conclusion_of_nothing nothing told (inr (memory, none, untold)) = absurd (cc)
+
+  -- A run has no conclusion, and a judgement, a check, an upgrade and a count keep no run.
   verdict_on_a_run : asked_by arguments ≡ Some (run_of g 77 4 once false) → ¬ CallEnds held arguments Done [] (Some (conclusion.Verdict Finished))
-  verdict_on_a_run asks (inl (file, limit, workers, rounds, journal, asks_file, ends, none)) = absurd (cc)
-  verdict_on_a_run asks (inr (inl (file, limit, workers, rounds, asks_profile, ends))) = let never : Some (run_of g 77 4 once false) ≡ Some (profile_of file limit workers rounds) = sym asks ∙ asks_profile in absurd (cc)
-  verdict_on_a_run asks (inr (inr (inl (file, name, limit, asks_judge, ends, none)))) = let never : Some (run_of g 77 4 once false) ≡ Some (judge_of file name limit) = sym asks ∙ asks_judge in absurd (cc)
-  verdict_on_a_run asks (inr (inr (inr (inl (file, asks_check, ends, none))))) = let never : Some (run_of g 77 4 once false) ≡ Some (check_of file) = sym asks ∙ asks_check in absurd (cc)
-  verdict_on_a_run asks (inr (inr (inr (inr (inl (file, asks_upgrade, ends, none)))))) = let never : Some (run_of g 77 4 once false) ≡ Some (upgrade_of file) = sym asks ∙ asks_upgrade in absurd (cc)
-  verdict_on_a_run asks (inr (inr (inr (inr (inr (inl (same, none, nothing, refused))))))) = absurd (cc)
-  verdict_on_a_run asks (inr (inr (inr (inr (inr (inr (inl (same, none, nothing)))))))) = absurd (cc)
-  verdict_on_a_run asks (inr (inr (inr (inr (inr (inr (inr (layers, hands, asks_generate, ends, none)))))))) = let never : Some (run_of g 77 4 once false) ≡ Some (generate_of layers hands) = sym asks ∙ asks_generate in absurd (cc)
+  verdict_on_a_run asks (inl ends) = let none : Some (conclusion.Verdict Finished) ≡ None = (subst (λ ask. AskedEnds held ask Done [] (Some (conclusion.Verdict Finished))) asks ends).1 in absurd (cc)
+  verdict_on_a_run asks (inr (memory, none, nothing)) = absurd (cc)
 
   run_of_a_judgement : (run : TextRun) → asked_by arguments ≡ Some (judge_of g t 77) → ¬ CallEnds held arguments Done (run ∷ []) None
-  run_of_a_judgement run asks (inl (file, limit, workers, rounds, journal, asks_file, ends, none)) = let never : Some (judge_of g t 77) ≡ Some (run_of file limit workers rounds journal) = sym asks ∙ asks_file in absurd (cc)
-  run_of_a_judgement run asks (inr (inl (file, limit, workers, rounds, asks_profile, ends))) = let never : Some (judge_of g t 77) ≡ Some (profile_of file limit workers rounds) = sym asks ∙ asks_profile in absurd (cc)
-  run_of_a_judgement run asks (inr (inr (inl (file, name, limit, asks_judge, ends, none)))) = absurd (cc)
-  run_of_a_judgement run asks (inr (inr (inr (inl (file, asks_check, ends, none))))) = absurd (cc)
-  run_of_a_judgement run asks (inr (inr (inr (inr (inl (file, asks_upgrade, ends, none)))))) = absurd (cc)
-  run_of_a_judgement run asks (inr (inr (inr (inr (inr (inl (same, none, nothing, refused))))))) = absurd (cc)
-  run_of_a_judgement run asks (inr (inr (inr (inr (inr (inr (inl (same, none, nothing)))))))) = absurd (cc)
-  run_of_a_judgement run asks (inr (inr (inr (inr (inr (inr (inr (layers, hands, asks_generate, ends, none)))))))) = let never : Some (judge_of g t 77) ≡ Some (generate_of layers hands) = sym asks ∙ asks_generate in absurd (cc)
+  run_of_a_judgement run asks (inl ends) = let none : run ∷ [] ≡ [] = (subst (λ ask. AskedEnds held ask Done (run ∷ []) None) asks ends).1 in absurd (omega (arith, ap length none))
+  run_of_a_judgement run asks (inr (memory, none, nothing)) = absurd (cc)
 
   run_of_a_check : (run : TextRun) (found : List GraphFindings) → asked_by arguments ≡ Some (check_of g) → ¬ CallEnds held arguments Done (run ∷ []) (Some (conclusion.Findings found))
-  run_of_a_check run found asks (inl (file, limit, workers, rounds, journal, asks_file, ends, none)) = absurd (cc)
-  run_of_a_check run found asks (inr (inl (file, limit, workers, rounds, asks_profile, ends))) = let never : Some (check_of g) ≡ Some (profile_of file limit workers rounds) = sym asks ∙ asks_profile in absurd (cc)
-  run_of_a_check run found asks (inr (inr (inl (file, name, limit, asks_judge, ends, none)))) = absurd (cc)
-  run_of_a_check run found asks (inr (inr (inr (inl (file, asks_check, ends, none))))) = absurd (cc)
-  run_of_a_check run found asks (inr (inr (inr (inr (inl (file, asks_upgrade, ends, none)))))) = absurd (cc)
-  run_of_a_check run found asks (inr (inr (inr (inr (inr (inl (same, none, nothing, refused))))))) = absurd (cc)
-  run_of_a_check run found asks (inr (inr (inr (inr (inr (inr (inl (same, none, nothing)))))))) = absurd (cc)
-  run_of_a_check run found asks (inr (inr (inr (inr (inr (inr (inr (layers, hands, asks_generate, ends, none)))))))) = let never : Some (check_of g) ≡ Some (generate_of layers hands) = sym asks ∙ asks_generate in absurd (cc)
+  run_of_a_check run found asks (inl ends) = let none : run ∷ [] ≡ [] = (subst (λ ask. AskedEnds held ask Done (run ∷ []) (Some (conclusion.Findings found))) asks ends).1 in absurd (omega (arith, ap length none))
+  run_of_a_check run found asks (inr (memory, none, nothing)) = absurd (cc)
 
   run_of_an_upgrade : (run : TextRun) (text : List ℕ) → asked_by arguments ≡ Some (upgrade_of g) → ¬ CallEnds held arguments Done (run ∷ []) (Some (conclusion.GraphFile text))
-  run_of_an_upgrade run text asks (inl (file, limit, workers, rounds, journal, asks_file, ends, none)) = absurd (cc)
-  run_of_an_upgrade run text asks (inr (inl (file, limit, workers, rounds, asks_profile, ends))) = let never : Some (upgrade_of g) ≡ Some (profile_of file limit workers rounds) = sym asks ∙ asks_profile in absurd (cc)
-  run_of_an_upgrade run text asks (inr (inr (inl (file, name, limit, asks_judge, ends, none)))) = absurd (cc)
-  run_of_an_upgrade run text asks (inr (inr (inr (inl (file, asks_check, ends, none))))) = absurd (cc)
-  run_of_an_upgrade run text asks (inr (inr (inr (inr (inl (file, asks_upgrade, ends, none)))))) = absurd (cc)
-  run_of_an_upgrade run text asks (inr (inr (inr (inr (inr (inl (same, none, nothing, refused))))))) = absurd (cc)
-  run_of_an_upgrade run text asks (inr (inr (inr (inr (inr (inr (inl (same, none, nothing)))))))) = absurd (cc)
-  run_of_an_upgrade run text asks (inr (inr (inr (inr (inr (inr (inr (layers, hands, asks_generate, ends, none)))))))) = let never : Some (upgrade_of g) ≡ Some (generate_of layers hands) = sym asks ∙ asks_generate in absurd (cc)
+  run_of_an_upgrade run text asks (inl ends) = let none : run ∷ [] ≡ [] = (subst (λ ask. AskedEnds held ask Done (run ∷ []) (Some (conclusion.GraphFile text))) asks ends).1 in absurd (omega (arith, ap length none))
+  run_of_an_upgrade run text asks (inr (memory, none, nothing)) = absurd (cc)
+
+  run_of_a_count : (run : TextRun) (lines : ℕ) → asked_by arguments ≡ Some (count_of u t 1 4) → ¬ CallEnds held arguments Done (run ∷ []) (Some (conclusion.WordLines lines))
+  run_of_a_count run lines asks (inl ends) = let none : run ∷ [] ≡ [] = (subst (λ ask. AskedEnds held ask Done (run ∷ []) (Some (conclusion.WordLines lines))) asks ends).1 in absurd (omega (arith, ap length none))
+  run_of_a_count run lines asks (inr (memory, none, nothing)) = absurd (cc)
 
 -- What has been done to a sink of memory when the call ends.
 abbrev sink : List ℕ → ℕ → SinkState

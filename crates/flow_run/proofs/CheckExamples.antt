@@ -20,7 +20,7 @@ use Rattle.command_line.specs.Requests.{asked_by, check as check_of}
 use Rattle.flow_run.specs.declared.conclusion.Conclusion.TheVariants as conclusion
 use Rattle.flow_run.specs.declared.conclusion.GraphFindings.{GraphFindings}
 use Rattle.flow_run.specs.Requests.{SourceTexts, StopsAtPlan, StopsAtBytes}
-use Rattle.flow_run.specs.PlanFiles.{StopsAtFile, StopsBeforePlan, IsAfterPlan, HoldsPlan}
+use Rattle.flow_run.specs.PlanFiles.{StopsAtFile, StopsBeforePlan, IsAfterConclusion, HoldsPlan}
 use Rattle.flow_run.specs.Checks.{AreFindingsOn, AreFindingsOnAll, IsChecked, EndsChecked, CheckEnds, count_line, finding_count, finding_line, findings_text, graph_line, graph_lines, line_start, task_line}
 use Rattle.flow_run.specs.Answers.{conclusion_text, output_of, runs_text}
 use Rattle.flow_run.proofs.Completing.{one_plan}
@@ -121,10 +121,10 @@ unfolding digits
 output_of_a_check arguments asks = ap (λ asked. runs_text asked [] ++ codes "mixed b\nfindings 1\n") asks
 
 -- With findings the status is that of a call without any, unless the output failed or memory ran out.
-after_findings : IsAfterPlan Done × IsAfterPlan WriteFault × IsAfterPlan NoMemory
+after_findings : IsAfterConclusion Done × IsAfterConclusion WriteFault × IsAfterConclusion NoMemory
 after_findings = (inl refl, inr (inl refl), inr (inr refl))
 
-no_source_told_as_a_status : ¬ IsAfterPlan (status.NoSource File)
+no_source_told_as_a_status : ¬ IsAfterConclusion (status.NoSource File)
 no_source_told_as_a_status (inl same) = absurd (cc)
 no_source_told_as_a_status (inr (inl same)) = absurd (cc)
 no_source_told_as_a_status (inr (inr same)) = absurd (cc)

@@ -14,7 +14,7 @@ use Rattle.call_status.specs.declared.status.Status.TheVariants.{Done, ReadFault
 use Rattle.call_status.specs.declared.stop.Stop.{Stop}
 use Rattle.call_status.specs.declared.stop.Stop.TheVariants as stop
 use Rattle.flow_run.specs.Requests.{SourceTexts, IsHeld, HasStart, StopsAtName, StopsAtPlan, StopsAtBytes, StopsAtText, StopsBefore, CanBeRun, file_limit, text_limit}
-use Rattle.command_line.specs.Requests.{AskedRounds, asked_by}
+use Rattle.command_line.specs.Requests.{Asked, AskedRounds, asked_by, run, profile, judge, check, upgrade, generate, count}
 use Rattle.nested_runs.specs.Reasons.{run_reason}
 use Rattle.nested_runs.specs.declared.reasons.Reason.{Reason}
 use Rattle.nested_runs.specs.declared.reasons.Reason.TheVariants.{Fine}
@@ -22,12 +22,13 @@ use Rattle.text_tasks.specs.JobMeaning.{text_job}
 use Rattle.call_status.specs.Statuses.{status_of}
 use Rattle.call_status.specs.Statuses.{status_after}
 use Rattle.flow_run.specs.declared.conclusion.Conclusion.{Conclusion}
-use Rattle.flow_run.specs.Answers.{TextRun, GenerateEnds, IsAfterRun, RunEnds, CallEnds}
+use Rattle.flow_run.specs.Answers.{AskedEnds, TextRun, GenerateEnds, IsAfterRun, RunEnds, CallEnds}
 use Rattle.flow_run.specs.Completion.{IsAtHand}
 use Rattle.flow_run.specs.RoundTexts.{last_reason}
 use Rattle.flow_run.proofs.RoundLemmas.{last_fine, run_of_profile}
-use Rattle.flow_run.specs.PlanFiles.{IsAfterPlan, StopsBeforePlan, HoldsPlan}
+use Rattle.flow_run.specs.PlanFiles.{IsAfterConclusion, StopsBeforePlan, HoldsPlan}
 use Rattle.flow_run.specs.Checks.{CheckEnds}
+use Rattle.flow_run.specs.Counted.{CountEnds, HoldsText}
 use Rattle.flow_run.specs.Upgrades.{UpgradeEnds}
 use Rattle.journal_rules.specs.declared.entry.Entry.{Entry}
 use Rattle.task_graph.specs.NetRows.{NetRows}
@@ -193,42 +194,50 @@ module _ (status : Status) (read : (n : List ℕ) → status ≢ ReadFault n) (w
   judge_completes (Some text) file name limit concluded can (inr ended) =
       after_verdict can.plan.top.net limit can.journal ended.verdict (judged_well text file can.plan name can.journal limit ended.verdict can.graph can.trace ended.judged) can.stands ended.after
 
-  -- what is written of a plan and doesn't fail is done
-  after_plan : IsAfterPlan status → (status ≡ Done) ⊎ (status ≡ NoMemory)
-  after_plan (inl told) = inl told
-  after_plan (inr (inl failed)) = absurd (write failed)
-  after_plan (inr (inr memory)) = inr memory
+  -- what is written of a conclusion and doesn't fail is done
+  after_conclusion : IsAfterConclusion status → (status ≡ Done) ⊎ (status ≡ NoMemory)
+  after_conclusion (inl told) = inl told
+  after_conclusion (inr (inl failed)) = absurd (write failed)
+  after_conclusion (inr (inr memory)) = inr memory
 
   check_completes : (held : SourceTexts) (file : List ℕ) (concluded : Option Conclusion) → IsSomeAnd held (λ text. HoldsPlan text file)
       → CheckEnds held file status concluded → (status ≡ Done) ⊎ (status ≡ NoMemory)
   check_completes None file concluded can ends = absurd can
   check_completes (Some text) file concluded can (inl stopped) =
       inr (stopped.reported ∙ ap status_of (never_before_plan text file can.plan stopped.why can.graph stopped.stops (not_at_read stopped.why stopped.reported)))
-  check_completes (Some text) file concluded can (inr ended) = after_plan ended.after
+  check_completes (Some text) file concluded can (inr ended) = after_conclusion ended.after
 
   upgrade_completes : (held : SourceTexts) (file : List ℕ) (concluded : Option Conclusion) → IsSomeAnd held (λ text. HoldsPlan text file)
       → UpgradeEnds held file status concluded → (status ≡ Done) ⊎ (status ≡ NoMemory)
   upgrade_completes None file concluded can ends = absurd can
   upgrade_completes (Some text) file concluded can (inl stopped) =
       inr (stopped.reported ∙ ap status_of (never_before_plan text file can.plan stopped.why can.graph stopped.stops (not_at_read stopped.why stopped.reported)))
-  upgrade_completes (Some text) file concluded can (inr ended) = after_plan ended.after
+  upgrade_completes (Some text) file concluded can (inr ended) = after_conclusion ended.after
 
   generate_completes : (layers : ℕ) (runs : List TextRun) → All (λ run. run_reason text_job run ≡ Fine) runs → GenerateEnds layers status runs → (status ≡ Done) ⊎ (status ≡ NoMemory)
   generate_completes layers runs fine (inl stopped) = inr stopped.0
   generate_completes layers runs fine (inr ran) = after_run (last_reason runs) status (last_fine runs fine) ran.after write
 
-  -- Where nothing is asked for, nothing is at hand.
-  none_at_hand : (held : SourceTexts) → IsAtHand held None → ⊥
-  none_at_hand held hand = hand
+  count_completes : (held : SourceTexts) (word file : List ℕ) (concluded : Option Conclusion) → IsSomeAnd held (λ text. HoldsText text file)
+      → CountEnds held word file status concluded → (status ≡ Done) ⊎ (status ≡ NoMemory)
+  count_completes None word file concluded can ends = absurd can
+  count_completes (Some text) word file concluded can (inl stopped) =
+      inr (stopped.reported ∙ ap status_of (never_stops text file text_limit stopped.why can stopped.stops (not_at_read stopped.why stopped.reported)))
+  count_completes (Some text) word file concluded can (inr ended) = after_conclusion ended.after
+
+  asked_completes : (held : SourceTexts) (asked : Option Asked) (runs : List TextRun) (concluded : Option Conclusion) → AskedEnds held asked status runs concluded
+      → IsAtHand held asked → All (λ run. run_reason text_job run ≡ Fine) runs → (status ≡ Done) ⊎ (status ≡ NoMemory)
+  asked_completes held (Some (run file limit workers rounds journal)) runs concluded (ends, none) hand fine = run_completes held file limit rounds runs hand fine ends
+  asked_completes held (Some (profile file limit workers rounds)) runs concluded ends hand fine = run_completes held file limit rounds runs hand fine (run_of_profile held file limit rounds status runs concluded ends)
+  asked_completes held (Some (judge file name limit)) runs concluded (ends, none) hand fine = judge_completes held file name limit concluded hand ends
+  asked_completes held (Some (check file)) runs concluded (ends, none) hand fine = check_completes held file concluded hand ends
+  asked_completes held (Some (upgrade file)) runs concluded (ends, none) hand fine = upgrade_completes held file concluded hand ends
+  asked_completes held (Some (generate layers workers)) runs concluded (ends, none) hand fine = generate_completes layers runs fine ends
+  asked_completes held (Some (count word file grain workers)) runs concluded (ends, none) hand fine = count_completes held word file concluded hand ends
+  asked_completes held None runs concluded (bad, none, nothing) hand fine = absurd hand
 
   -- What is at hand and meets no failure is done.
   pub completes : (held : SourceTexts) (arguments : List (List ℕ)) (runs : List TextRun) (concluded : Option Conclusion) → CallEnds held arguments status runs concluded
       → IsAtHand held (asked_by arguments) → All (λ run. run_reason text_job run ≡ Fine) runs → (status ≡ Done) ⊎ (status ≡ NoMemory)
-  completes held arguments runs concluded (inl (file, limit, workers, rounds, journal, asks, ends, none)) hand fine = run_completes held file limit rounds runs (subst (IsAtHand held) asks hand) fine ends
-  completes held arguments runs concluded (inr (inl (file, limit, workers, rounds, asks, ends))) hand fine = run_completes held file limit rounds runs (subst (IsAtHand held) asks hand) fine (run_of_profile held file limit rounds status runs concluded ends)
-  completes held arguments runs concluded (inr (inr (inl (file, name, limit, asks, ends, none)))) hand fine = judge_completes held file name limit concluded (subst (IsAtHand held) asks hand) ends
-  completes held arguments runs concluded (inr (inr (inr (inl (file, asks, ends, none))))) hand fine = check_completes held file concluded (subst (IsAtHand held) asks hand) ends
-  completes held arguments runs concluded (inr (inr (inr (inr (inl (file, asks, ends, none)))))) hand fine = upgrade_completes held file concluded (subst (IsAtHand held) asks hand) ends
-  completes held arguments runs concluded (inr (inr (inr (inr (inr (inl (same, none, nothing, never))))))) hand fine = absurd (none_at_hand held (subst (IsAtHand held) never hand))
-  completes held arguments runs concluded (inr (inr (inr (inr (inr (inr (inl (memory, none, nothing)))))))) hand fine = inr memory
-  completes held arguments runs concluded (inr (inr (inr (inr (inr (inr (inr (layers, hands, asks_generate, ends, none)))))))) hand fine = generate_completes layers runs fine ends
+  completes held arguments runs concluded (inl ends) hand fine = asked_completes held (asked_by arguments) runs concluded ends hand fine
+  completes held arguments runs concluded (inr (memory, none, nothing)) hand fine = inr memory

@@ -37,7 +37,7 @@ use Rattle.flow_run.specs.declared.conclusion.Conclusion.{Conclusion}
 use Rattle.flow_run.specs.declared.conclusion.Conclusion.TheVariants as conclusion
 use Rattle.flow_run.specs.declared.conclusion.GraphFindings.{GraphFindings}
 use Rattle.flow_run.specs.Requests.{SourceTexts, StopsAtName, IsAdded, StopsAtText, HasStart, StopsAtBytes, StopsAtGraph, StopsBefore, HasPlan, CanBeRun, text_limit}
-use Rattle.flow_run.specs.Answers.{TextRun, IsAfterRun, RunEnds, CallEnds, Reported}
+use Rattle.flow_run.specs.Answers.{AskedEnds, TextRun, IsAfterRun, RunEnds, CallEnds, Reported}
 use Rattle.flow_run.specs.Profiles.{plan_run}
 use Rattle.flow_run.specs.RoundTexts.{last_reason, rounds_text}
 use Rattle.flow_run.specs.Judgements.{StopsAtJournal, StopsAtJournalText, StopsBeforeVerdict, JudgeEnds, CanBeJudged}
@@ -230,16 +230,16 @@ plan_of_the_first_run run other = refl
 
 module _ (arguments : List (List ℕ)) (status : Status) where
   call_of_a_run : (runs : List TextRun) → asked_by arguments ≡ Some (run_of g 77 4 once false) → RunEnds held g 77 once status runs → CallEnds held arguments status runs None
-  call_of_a_run runs asks ends = inl (g, 77, 4, once, false, asks, ends, refl)
+  call_of_a_run runs asks ends = inl (subst (λ asked. AskedEnds held asked status runs None) (sym asks) (ends, refl))
 
   call_of_a_judgement : (concluded : Option Conclusion) → asked_by arguments ≡ Some (judge_of g t 77) → JudgeEnds held g t 77 status concluded → CallEnds held arguments status [] concluded
-  call_of_a_judgement concluded asks ends = inr (inr (inl (g, t, 77, asks, ends, refl)))
+  call_of_a_judgement concluded asks ends = inl (subst (λ asked. AskedEnds held asked status [] concluded) (sym asks) (ends, refl))
 
   call_of_a_check : (concluded : Option Conclusion) → asked_by arguments ≡ Some (check_of g) → CheckEnds held g status concluded → CallEnds held arguments status [] concluded
-  call_of_a_check concluded asks ends = inr (inr (inr (inl (g, asks, ends, refl))))
+  call_of_a_check concluded asks ends = inl (subst (λ asked. AskedEnds held asked status [] concluded) (sym asks) (ends, refl))
 
   call_without_memory : CallEnds held arguments NoMemory [] None
-  call_without_memory = inr (inr (inr (inr (inr (inr (inl (refl, refl, refl)))))))
+  call_without_memory = inr (refl, refl, refl)
 
 -- ---- the journal in place of the report, where that is asked for
 

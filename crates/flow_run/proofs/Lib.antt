@@ -27,3 +27,4 @@ pub mod PlainExamples
 pub mod RoundPlainExamples
 mod GeneratedLemmas
 pub mod GenerateExamples
+pub mod CountExamples

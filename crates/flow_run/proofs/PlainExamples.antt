@@ -6,7 +6,7 @@ use Rattle.std.proofs.lemmas.List.Elements.{All-nil, All-cons, All-head}
 use Rattle.task_graph.specs.declared.net.Shape.TheVariants.{Plain}
 use Rattle.task_graph.specs.declared.net.TaskRow.{TaskRow}
 use Rattle.call_status.specs.declared.status.Status.TheVariants.{Done, Limit, NoMemory, WriteFault}
-use Rattle.command_line.specs.Requests.{Asked, AskedRounds, once, times, most_rounds, run, profile, judge, check, upgrade, generate}
+use Rattle.command_line.specs.Requests.{Asked, AskedRounds, once, times, most_rounds, run, profile, judge, check, upgrade, generate, count}
 use Rattle.report_laws.specs.PlainReport.{IsPlainJob, RunsWell}
 use Rattle.report_laws.specs.SmallPlans.{chooses_a_branch, kept_together, worked_job}
 use Rattle.text_tasks.specs.declared.job.TextJob.{TextJob}
@@ -85,6 +85,7 @@ most_asked (Some (judge file name limit)) = 0
 most_asked (Some (check file)) = 0
 most_asked (Some (upgrade file)) = 0
 most_asked (Some (generate layers workers)) = 0
+most_asked (Some (count word file grain workers)) = 0
 
 -- The rounds are those that are asked for.
 of_other_rounds : (workers : ℕ) → ¬ AsksRounds (Some (run g 4 1 (times 2) false)) g 4 workers (times 3)

@@ -1,7 +1,7 @@
 -- Rounds of a graph without conditions report what one thread does, and are done exactly where that runs through.
 use Rattle.std.proofs.Common.{append-nil, ◌≡◌, ◌≢◌, ◌⊎◌, inl, inr, ℕ, ◌≤◌, Bool, false, List, [], ◌∷◌, ◌++◌, length, map, Option, Some, None, refl, sym, ap, ◌∙◌, subst}
 use Rattle.std.specs.Prelude.{All, IsSomeAnd, slice_index_or}
-use Rattle.std.proofs.lemmas.Option.{none-some, same_Some}
+use Rattle.std.proofs.lemmas.Option.{same_Some}
 use Rattle.std.proofs.lemmas.List.Elements.{All-nil, All-cons}
 use Rattle.outside_io.specs.Sink.{Took}
 use Rattle.call_status.specs.declared.status.Status.{Status}
@@ -9,7 +9,7 @@ use Rattle.call_status.specs.declared.status.Status.TheVariants.{Done, ReadFault
 use Rattle.call_status.specs.declared.stop.Stop.{Stop}
 use Rattle.call_status.specs.declared.stop.Stop.TheVariants as stop
 use Rattle.call_status.specs.Statuses.{status_of}
-use Rattle.command_line.specs.Requests.{Asked, AskedRounds, asked_by, run, profile, judge, check, upgrade, generate}
+use Rattle.command_line.specs.Requests.{Asked, AskedRounds, asked_by, run, profile, judge, check, upgrade, generate, count}
 use Rattle.graph_file.proofs.PlanLemmas.{IsPlan-read}
 use Rattle.graph_plans.specs.PlanRows.{PlanRows}
 use Rattle.graph_file.specs.PlanText.{PlanText}
@@ -35,7 +35,7 @@ use Rattle.profile_table.specs.ProfileText.{profile_text}
 use Rattle.profile_table.specs.Profiles.{Profile as Counted, profile_rows}
 use Rattle.flow_run.specs.Requests.{SourceTexts, CanBeRun, IsHeld, IsRequestedJob, IsTextOf, TextsAre, file_limit, text_limit}
 use Rattle.nested_runs.specs.Rounds.{AreAllRounds, AreFirstRounds}
-use Rattle.flow_run.specs.Answers.{CallEnds, GenerateEnds, IsAfterRun, ProfileEnds, RunEnds, TextRun, conclusion_text, output_of, runs_text}
+use Rattle.flow_run.specs.Answers.{AskedEnds, CallEnds, GenerateEnds, IsAfterRun, ProfileEnds, RunEnds, TextRun, conclusion_text, output_of, runs_text}
 use Rattle.flow_run.specs.RoundTexts.{last_reason, round_rule, rounds_text}
 use Rattle.flow_run.specs.Completion.{IsAtHand}
 use Rattle.flow_run.specs.Plainly.{AsksPlainly, AsksRounds, IsReportedPlainly, TookPlainly}
@@ -131,28 +131,6 @@ planned held file limit (Graph work) is = (IsPlan-read is.plan.bytes work.plan i
 planned held file limit (Parts work) is = absurd is
 planned held file limit (Pipe work) is = absurd is
 
--- the rounds that are asked for, and of what file, with at most so many starts
-abbrev rounds_of : Option Asked → Option (List ℕ × ℕ × AskedRounds)
-rounds_of None = None
-rounds_of (Some (run file limit workers rounds journal)) = Some (file, limit, rounds)
-rounds_of (Some (profile file limit workers rounds)) = Some (file, limit, rounds)
-rounds_of (Some (judge file name limit)) = None
-rounds_of (Some (check file)) = None
-rounds_of (Some (upgrade file)) = None
-rounds_of (Some (generate layers workers)) = None
-
-no_run_and_profile : (file other : List ℕ) (limit most workers hands : ℕ) (rounds often : AskedRounds) (journal : Bool) → Some (run file limit workers rounds journal) ≡ Some (profile other most hands often) → ⊥
-no_run_and_profile file other limit most workers hands rounds often journal same = cc
-
-no_run_and_judgement : (file other name : List ℕ) (limit most workers : ℕ) (rounds : AskedRounds) (journal : Bool) → Some (run file limit workers rounds journal) ≡ Some (judge other name most) → ⊥
-no_run_and_judgement file other name limit most workers rounds journal same = cc
-
-no_run_and_check : (file other : List ℕ) (limit workers : ℕ) (rounds : AskedRounds) (journal : Bool) → Some (run file limit workers rounds journal) ≡ Some (check other) → ⊥
-no_run_and_check file other limit workers rounds journal same = cc
-
-no_run_and_upgrade : (file other : List ℕ) (limit workers : ℕ) (rounds : AskedRounds) (journal : Bool) → Some (run file limit workers rounds journal) ≡ Some (upgrade other) → ⊥
-no_run_and_upgrade file other limit workers rounds journal same = cc
-
 -- What holds of each kept run of a plan's top graph.
 abbrev EachKept : (TextRun → Type 0) → Type 0
 EachKept Holds = (run : TextRun) → IsPlanned (job_of run) → IsKept text_job run → Holds run
@@ -172,18 +150,24 @@ each_generated Holds law layers status runs (inr ran) =
     let all = rounds_planned ran.job runs ran.first.rounds ran.is.planned in
     λ k d below. law (slice_index_or runs k d) (all k d below) (ran.first.rounds.kept k d below)
 
+-- that of what is asked for
+each_asked : (Holds : TextRun → Type 0) → EachKept Holds
+    → (held : SourceTexts) (asked : Option Asked) (status : Status) (runs : List TextRun) (concluded : Option Conclusion) → AskedEnds held asked status runs concluded → All Holds runs
+each_asked Holds law held (Some (run file limit workers rounds journal)) status runs concluded (ends, none) = each_round Holds law held file limit rounds status runs ends
+each_asked Holds law held (Some (profile file limit workers rounds)) status runs concluded ends =
+    each_round Holds law held file limit rounds status runs (run_of_profile held file limit rounds status runs concluded ends)
+each_asked Holds law held (Some (judge file name limit)) status runs concluded (ends, none) = subst (All Holds) (sym none) (All-nil _)
+each_asked Holds law held (Some (check file)) status runs concluded (ends, none) = subst (All Holds) (sym none) (All-nil _)
+each_asked Holds law held (Some (upgrade file)) status runs concluded (ends, none) = subst (All Holds) (sym none) (All-nil _)
+each_asked Holds law held (Some (generate layers workers)) status runs concluded (ends, none) = each_generated Holds law layers status runs ends
+each_asked Holds law held (Some (count word file grain workers)) status runs concluded (ends, none) = subst (All Holds) (sym none) (All-nil _)
+each_asked Holds law held None status runs concluded (bad, none, nothing) = subst (All Holds) (sym none) (All-nil _)
+
 -- and of each run that a call keeps
 each_kept : (Holds : TextRun → Type 0) → EachKept Holds
     → (held : SourceTexts) (arguments : List (List ℕ)) (status : Status) (runs : List TextRun) (concluded : Option Conclusion) → CallEnds held arguments status runs concluded → All Holds runs
-each_kept Holds law held arguments status runs concluded (inl (file, limit, workers, rounds, journal, asked, ends, none)) = each_round Holds law held file limit rounds status runs ends
-each_kept Holds law held arguments status runs concluded (inr (inl (file, limit, workers, rounds, asked, ends))) =
-    each_round Holds law held file limit rounds status runs (run_of_profile held file limit rounds status runs concluded ends)
-each_kept Holds law held arguments status runs concluded (inr (inr (inl (file, name, limit, asked, ends, none)))) = subst (All Holds) (sym none) (All-nil _)
-each_kept Holds law held arguments status runs concluded (inr (inr (inr (inl (file, asked, ends, none))))) = subst (All Holds) (sym none) (All-nil _)
-each_kept Holds law held arguments status runs concluded (inr (inr (inr (inr (inl (file, asked, ends, none)))))) = subst (All Holds) (sym none) (All-nil _)
-each_kept Holds law held arguments status runs concluded (inr (inr (inr (inr (inr (inl (same, none, nothing, never))))))) = subst (All Holds) (sym none) (All-nil _)
-each_kept Holds law held arguments status runs concluded (inr (inr (inr (inr (inr (inr (inl (same, none, nothing)))))))) = subst (All Holds) (sym none) (All-nil _)
-each_kept Holds law held arguments status runs concluded (inr (inr (inr (inr (inr (inr (inr (layers, hands, asks_generate, ends, none)))))))) = each_generated Holds law layers status runs ends
+each_kept Holds law held arguments status runs concluded (inl ends) = each_asked Holds law held (asked_by arguments) status runs concluded ends
+each_kept Holds law held arguments status runs concluded (inr (memory, none, nothing)) = subst (All Holds) (sym none) (All-nil _)
 
 -- Each run that is kept reports what one thread does.
 pub kept_plainly : (held : SourceTexts) (arguments : List (List ℕ)) (status : Status) (runs : List TextRun) (concluded : Option Conclusion) → CallEnds held arguments status runs concluded → All IsReportedPlainly runs
@@ -194,9 +178,6 @@ pub kept_in_order : (held : SourceTexts) (arguments : List (List ℕ)) (status :
 kept_in_order = each_kept PipesInOrder pipes_in_order
 
 module _ (held : SourceTexts) (arguments : List (List ℕ)) (status : Status) (rounds : AskedRounds) (job : TextJob) (asks : AsksPlainly held (asked_by arguments) rounds job) where
-  asked_rounds : rounds_of (asked_by arguments) ≡ Some (asks.file, asks.limit, rounds)
-  asked_rounds = elim asks.asks [ inl reports ↦ ap rounds_of reports | inr profiles ↦ ap rounds_of profiles ]
-
   is_planned : IsPlanned job
   is_planned = planned held asks.file asks.limit job asks.requested
 
@@ -209,25 +190,13 @@ module _ (held : SourceTexts) (arguments : List (List ℕ)) (status : Status) (r
   abbrev EndsAsAsked : List TextRun → Type 0
   EndsAsAsked runs = RunEnds held asks.file asks.limit rounds status runs ⊎ ((status ≡ NoMemory) × (runs ≡ []))
 
-  same_rounds : (file : List ℕ) (limit : ℕ) (often : AskedRounds) (runs : List TextRun) → rounds_of (asked_by arguments) ≡ Some (file, limit, often) → RunEnds held file limit often status runs
-      → EndsAsAsked runs
-  same_rounds file limit often runs asked ends =
-      let same : (file, limit, often) ≡ (asks.file, asks.limit, rounds) = same_Some _ _ (sym asked ∙ asked_rounds) in
-      inl (subst (λ (t : List ℕ × ℕ × AskedRounds). RunEnds held t.0 t.1 t.2 status runs) same ends)
-
-  none_asked : (runs : List TextRun) → rounds_of (asked_by arguments) ≡ None → EndsAsAsked runs
-  none_asked runs none = absurd (none-some (asks.file, asks.limit, rounds) (sym none ∙ asked_rounds))
-
   -- The call runs the rounds that are asked for, of the file that is named, or meets want of memory before.
   ends_as_asked : (runs : List TextRun) (concluded : Option Conclusion) → CallEnds held arguments status runs concluded → EndsAsAsked runs
-  ends_as_asked runs concluded (inl (file, limit, workers, often, journal, asked, ends, none)) = same_rounds file limit often runs (ap rounds_of asked) ends
-  ends_as_asked runs concluded (inr (inl (file, limit, workers, often, asked, ends))) = same_rounds file limit often runs (ap rounds_of asked) (run_of_profile held file limit often status runs concluded ends)
-  ends_as_asked runs concluded (inr (inr (inl (file, name, limit, asked, ends, none)))) = none_asked runs (ap rounds_of asked)
-  ends_as_asked runs concluded (inr (inr (inr (inl (file, asked, ends, none))))) = none_asked runs (ap rounds_of asked)
-  ends_as_asked runs concluded (inr (inr (inr (inr (inl (file, asked, ends, none)))))) = none_asked runs (ap rounds_of asked)
-  ends_as_asked runs concluded (inr (inr (inr (inr (inr (inl (same, none, nothing, never))))))) = none_asked runs (ap rounds_of never)
-  ends_as_asked runs concluded (inr (inr (inr (inr (inr (inr (inl (memory, none, nothing)))))))) = inr (memory, none)
-  ends_as_asked runs concluded (inr (inr (inr (inr (inr (inr (inr (layers, hands, asks_generate, ends, none)))))))) = none_asked runs (ap rounds_of asks_generate)
+  ends_as_asked runs concluded (inl ends) = elim asks.asks [
+    | inl reports ↦ inl (subst (λ asked. AskedEnds held asked status runs concluded) reports ends).0
+    | inr profiles ↦ inl (run_of_profile held asks.file asks.limit rounds status runs concluded (subst (λ asked. AskedEnds held asked status runs concluded) profiles ends))
+  ]
+  ends_as_asked runs concluded (inr (memory, none, nothing)) = inr (memory, none)
 
   -- Where the values of each round by one thread run through, each run that is kept is fine.
   all_fine : (runs : List TextRun) → EndsAsAsked runs → RoundsRunWell rounds job → All (λ r. run_reason text_job r ≡ Fine) runs
@@ -258,42 +227,24 @@ module _ (held : SourceTexts) (arguments : List (List ℕ)) (status : Status) (r
       plain_rounds_well rounds job runs asks.plain is_planned all.0 all.1
 
   -- nothing is concluded of rounds whose reports are asked for
-  no_conclusion : (file : List ℕ) (limit workers : ℕ) → asked_by arguments ≡ Some (run file limit workers rounds false) → (runs : List TextRun) (concluded : Option Conclusion) → CallEnds held arguments status runs concluded → concluded ≡ None
-  no_conclusion file limit workers reports runs concluded (inl (other, most, hands, often, journal, asked, ends, none)) = none
-  no_conclusion file limit workers reports runs concluded (inr (inl (other, most, hands, often, asked, ends))) = absurd (no_run_and_profile file other limit most workers hands rounds often false (sym reports ∙ asked))
-  no_conclusion file limit workers reports runs concluded (inr (inr (inl (other, name, most, asked, ends, none)))) = absurd (no_run_and_judgement file other name limit most workers rounds false (sym reports ∙ asked))
-  no_conclusion file limit workers reports runs concluded (inr (inr (inr (inl (other, asked, ends, none))))) = absurd (no_run_and_check file other limit workers rounds false (sym reports ∙ asked))
-  no_conclusion file limit workers reports runs concluded (inr (inr (inr (inr (inl (other, asked, ends, none)))))) = absurd (no_run_and_upgrade file other limit workers rounds false (sym reports ∙ asked))
-  no_conclusion file limit workers reports runs concluded (inr (inr (inr (inr (inr (inl (same, none, nothing, never))))))) = nothing
-  no_conclusion file limit workers reports runs concluded (inr (inr (inr (inr (inr (inr (inl (memory, none, nothing)))))))) = nothing
-  no_conclusion file limit workers reports runs concluded (inr (inr (inr (inr (inr (inr (inr (layers, hands, asks_generate, ends, none)))))))) = none
+  no_conclusion : asked_by arguments ≡ Some (run asks.file asks.limit asks.workers rounds false) → (runs : List TextRun) (concluded : Option Conclusion) → CallEnds held arguments status runs concluded → concluded ≡ None
+  no_conclusion reports runs concluded (inl ends) = (subst (λ asked. AskedEnds held asked status runs concluded) reports ends).1
+  no_conclusion reports runs concluded (inr (memory, none, nothing)) = nothing
 
   -- the profile of rounds that are asked for is concluded, where the call is done
   abbrev IsProfiled : List TextRun → Option Conclusion → Type 0
   IsProfiled runs concluded = (counts : GraphProfile) × (concluded ≡ Some (Profile counts)) × IsProfileOf (names_of job) runs counts
 
-  profile_of_rounds : (file : List ℕ) (limit : ℕ) (often : AskedRounds) (runs : List TextRun) (concluded : Option Conclusion) → rounds_of (asked_by arguments) ≡ Some (file, limit, often)
-      → ProfileEnds held file limit often status runs concluded → status ≡ Done → IsProfiled runs concluded
-  profile_of_rounds file limit often runs concluded asked (inl stopped) done = absurd (never_done stopped.why (sym stopped.reported ∙ done))
-  profile_of_rounds file limit often runs concluded asked (inr ended) done = elim ended.counted [
-    | inl (memory, none) ↦ absurd (let never : NoMemory ≡ Done = sym memory ∙ done in cc)
-    | inr (counts, is, of_them) ↦ (counts, is, subst (λ (of : TextJob). IsProfileOf (names_of of) runs counts) (asked_job ended.ran.job of_file) of_them)
-  ]
+  profiled : asked_by arguments ≡ Some (profile asks.file asks.limit asks.workers rounds) → (runs : List TextRun) (concluded : Option Conclusion) → CallEnds held arguments status runs concluded → status ≡ Done → IsProfiled runs concluded
+  profiled profiles runs concluded (inl ends) done = by_end (subst (λ asked. AskedEnds held asked status runs concluded) profiles ends)
     where
-      of_file : IsRequestedJob held asks.file asks.limit ended.ran.job
-      of_file =
-          let same : (file, limit, often) ≡ (asks.file, asks.limit, rounds) = same_Some _ _ (sym asked ∙ asked_rounds) in
-          subst (λ (t : List ℕ × ℕ × AskedRounds). IsRequestedJob held t.0 t.1 ended.ran.job) same ended.ran.is
-
-  profiled : (file : List ℕ) (limit workers : ℕ) → asked_by arguments ≡ Some (profile file limit workers rounds) → (runs : List TextRun) (concluded : Option Conclusion) → CallEnds held arguments status runs concluded → status ≡ Done → IsProfiled runs concluded
-  profiled file limit workers profiles runs concluded (inl (other, most, hands, often, journal, asked, ends, none)) done = absurd (no_run_and_profile other file most limit hands workers often rounds journal (sym asked ∙ profiles))
-  profiled file limit workers profiles runs concluded (inr (inl (other, most, hands, often, asked, ends))) done = profile_of_rounds other most often runs concluded (ap rounds_of asked) ends done
-  profiled file limit workers profiles runs concluded (inr (inr (inl (other, name, most, asked, ends, none)))) done = absurd (none-some (file, limit, rounds) (ap rounds_of (sym asked ∙ profiles)))
-  profiled file limit workers profiles runs concluded (inr (inr (inr (inl (other, asked, ends, none))))) done = absurd (none-some (file, limit, rounds) (ap rounds_of (sym asked ∙ profiles)))
-  profiled file limit workers profiles runs concluded (inr (inr (inr (inr (inl (other, asked, ends, none)))))) done = absurd (none-some (file, limit, rounds) (ap rounds_of (sym asked ∙ profiles)))
-  profiled file limit workers profiles runs concluded (inr (inr (inr (inr (inr (inl (same, none, nothing, never))))))) done = absurd (none-some (file, limit, rounds) (ap rounds_of (sym never ∙ profiles)))
-  profiled file limit workers profiles runs concluded (inr (inr (inr (inr (inr (inr (inl (memory, none, nothing)))))))) done = absurd (let never : NoMemory ≡ Done = sym memory ∙ done in cc)
-  profiled file limit workers profiles runs concluded (inr (inr (inr (inr (inr (inr (inr (layers, hands, asks_generate, ends, none)))))))) done = absurd (none-some (file, limit, rounds) (ap rounds_of (sym asks_generate ∙ profiles)))
+      by_end : ProfileEnds held asks.file asks.limit rounds status runs concluded → IsProfiled runs concluded
+      by_end (inl stopped) = absurd (never_done stopped.why (sym stopped.reported ∙ done))
+      by_end (inr ended) = elim ended.counted [
+        | inl (memory, none) ↦ absurd (let never : NoMemory ≡ Done = sym memory ∙ done in cc)
+        | inr (counts, is, of_them) ↦ (counts, is, subst (λ (of : TextJob). IsProfileOf (names_of of) runs counts) (asked_job ended.ran.job ended.ran.is) of_them)
+      ]
+  profiled profiles runs concluded (inr (memory, none, nothing)) done = absurd (let never : NoMemory ≡ Done = sym memory ∙ done in cc)
 
   -- the text of a profile of fine rounds
   profile_same : (runs : List TextRun) (counts : GraphProfile) → IsProfileOf (names_of job) runs counts → AreAllRounds text_job job (round_rule rounds) runs × (last_reason runs ≡ Fine)
@@ -317,12 +268,12 @@ module _ (held : SourceTexts) (arguments : List (List ℕ)) (status : Status) (r
       by_request (inl reports) =
           let same : output_of arguments runs concluded ≡ plain_rounds rounds job =
           ap (λ asked. runs_text asked runs ++ conclusion_text concluded) reports
-          ∙ ap (λ c. rounds_text rounds false runs ++ conclusion_text c) (no_conclusion asks.file asks.limit asks.workers reports runs concluded ends)
+          ∙ ap (λ c. rounds_text rounds false runs ++ conclusion_text c) (no_conclusion reports runs concluded ends)
           ∙ append-nil _
           ∙ plain_rounds_written rounds job runs asks.plain is_planned all.0 all.1 in
           subst (λ asked. TookPlainly asked job before after) (sym reports) (subst (Took before after) same took)
       by_request (inr profiles) =
-          let is : IsProfiled runs concluded = profiled asks.file asks.limit asks.workers profiles runs concluded ends done in
+          let is : IsProfiled runs concluded = profiled profiles runs concluded ends done in
           let same : output_of arguments runs concluded ≡ profile_text (plain_rows rounds job) (names_of job) is.0.spans =
           ap (λ asked. runs_text asked runs ++ conclusion_text concluded) profiles
           ∙ ap conclusion_text is.1

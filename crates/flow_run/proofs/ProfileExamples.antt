@@ -1,7 +1,7 @@
 -- What a profile of rounds is, how a call ends that is to write one, and what it writes, computed on a graph file `g` of one
 -- byte.
 use Rattle.std.specs.Fmt.{digits}
-use Rattle.std.proofs.Common.{◌≡◌, ℕ, ◌+◌, List, [], ◌∷◌, ◌++◌, length, Option, Some, None, Bool, false, inl, inr, refl, sym, ap, ◌∙◌, arith, codes}
+use Rattle.std.proofs.Common.{◌≡◌, ℕ, ◌+◌, List, [], ◌∷◌, ◌++◌, length, Option, Some, None, Bool, false, inl, inr, refl, sym, ap, ◌∙◌, arith, codes, subst}
 use Rattle.std.specs.Prelude.{◌⊎◌, bytes_eq, if◌then◌else◌, min, sum_by}
 use Rattle.std.proofs.lemmas.Bool.{false≢true}
 use Rattle.journal_rules.specs.declared.entry.Cause.TheVariants.{Source, Strong}
@@ -18,7 +18,7 @@ use Rattle.call_status.specs.declared.status.Status.TheVariants.{Done, NoText, N
 use Rattle.call_status.specs.declared.stop.Stop.{Stop}
 use Rattle.call_status.specs.declared.stop.Stop.TheVariants as stop
 use Rattle.call_status.specs.Statuses.{status_of}
-use Rattle.command_line.specs.Requests.{AskedRounds, asked_by, once, times, run as run_asked, profile as profile_asked, judge as judge_asked, check as check_asked, upgrade as upgrade_asked, generate as generate_asked}
+use Rattle.command_line.specs.Requests.{AskedRounds, asked_by, once, times, run as run_asked, profile as profile_asked, judge as judge_asked}
 use Rattle.graph_plans.specs.PlanRows.{PlanRows}
 use Rattle.profile_table.specs.Profiles.{Profile, profile_of}
 use Rattle.profile_table.specs.ProfileText.{profile_text}
@@ -32,7 +32,7 @@ use Rattle.flow_run.specs.declared.conclusion.Conclusion.{Conclusion}
 use Rattle.flow_run.specs.declared.conclusion.Conclusion.TheVariants as conclusion
 use Rattle.flow_run.specs.declared.conclusion.GraphProfile.{GraphProfile}
 use Rattle.flow_run.specs.Requests.{SourceTexts, IsRequestedJob}
-use Rattle.flow_run.specs.Answers.{CallEnds, IsAfterRun, ProfileEnds, RanProfile, RanRounds, conclusion_text, output_of, runs_text}
+use Rattle.flow_run.specs.Answers.{AskedEnds, CallEnds, IsAfterRun, ProfileEnds, RanProfile, RanRounds, conclusion_text, output_of, runs_text}
 use Rattle.flow_run.specs.Profiles.{IsProfileOf, graph_profile_text, plan_run, spans_of_all}
 use Rattle.flow_run.specs.RoundTexts.{TextRun, round_rule, rounds_text}
 use Rattle.flow_run.proofs.RoundLemmas.{no_round}
@@ -285,26 +285,20 @@ profile_of_another_limit run concluded limit (inr ended) = absurd (omega (arith,
 
 module _ (arguments : List (List ℕ)) (asks : asked_by arguments ≡ Some (profile_asked g 77 4 once)) where
   call_of_a_profile : (status : Status) (runs : List TextRun) (concluded : Option Conclusion) → ProfileEnds held g 77 once status runs concluded → CallEnds held arguments status runs concluded
-  call_of_a_profile status runs concluded ends = inr (inl (g, 77, 4, once, asks, ends))
+  call_of_a_profile status runs concluded ends = inl (subst (λ asked. AskedEnds held asked status runs concluded) (sym asks) ends)
 
   verdict_on_a_profile : (runs : List TextRun) → ¬ CallEnds held arguments Done runs (Some (conclusion.Verdict Finished))
-  verdict_on_a_profile runs (inl (file, limit, workers, rounds, journal, asks_file, ends, none)) = absurd (cc)
-  verdict_on_a_profile runs (inr (inl (file, limit, workers, rounds, asks_profile, inl stopped))) = let none : Some (conclusion.Verdict Finished) ≡ None = stopped.none.1 in absurd (cc)
-  verdict_on_a_profile runs (inr (inl (file, limit, workers, rounds, asks_profile, inr ended))) = verdict_for_a_table (names_of ended.ran.job) runs ended.counted
-  verdict_on_a_profile runs (inr (inr (inl (file, name, limit, asks_judge, ends, none)))) = let never : Some (profile_asked g 77 4 once) ≡ Some (judge_asked file name limit) = sym asks ∙ asks_judge in absurd (cc)
-  verdict_on_a_profile runs (inr (inr (inr (inl (file, asks_check, ends, none))))) = let never : Some (profile_asked g 77 4 once) ≡ Some (check_asked file) = sym asks ∙ asks_check in absurd (cc)
-  verdict_on_a_profile runs (inr (inr (inr (inr (inl (file, asks_upgrade, ends, none)))))) = let never : Some (profile_asked g 77 4 once) ≡ Some (upgrade_asked file) = sym asks ∙ asks_upgrade in absurd (cc)
-  verdict_on_a_profile runs (inr (inr (inr (inr (inr (inl (same, none, nothing, refused))))))) = absurd (cc)
-  verdict_on_a_profile runs (inr (inr (inr (inr (inr (inr (inl (same, none, nothing)))))))) = absurd (cc)
-  verdict_on_a_profile runs (inr (inr (inr (inr (inr (inr (inr (layers, hands, asks_generate, ends, none)))))))) = let never : Some (profile_asked g 77 4 once) ≡ Some (generate_asked layers hands) = sym asks ∙ asks_generate in absurd (cc)
+  verdict_on_a_profile runs (inl ends) = by_end (subst (λ asked. AskedEnds held asked Done runs (Some (conclusion.Verdict Finished))) asks ends)
+    where
+      by_end : ¬ ProfileEnds held g 77 once Done runs (Some (conclusion.Verdict Finished))
+      by_end (inl stopped) = let none : Some (conclusion.Verdict Finished) ≡ None = stopped.none.1 in absurd (cc)
+      by_end (inr ended) = verdict_for_a_table (names_of ended.ran.job) runs ended.counted
+  verdict_on_a_profile runs (inr (memory, none, nothing)) = absurd (cc)
 
   runs_without_a_table : (runs : List TextRun) → ¬ CallEnds held arguments Done runs None
-  runs_without_a_table runs (inl (file, limit, workers, rounds, journal, asks_file, ends, none)) = let never : Some (profile_asked g 77 4 once) ≡ Some (run_asked file limit workers rounds journal) = sym asks ∙ asks_file in absurd (cc)
-  runs_without_a_table runs (inr (inl (file, limit, workers, rounds, asks_profile, inl stopped))) = never_done_before stopped.why stopped.reported
-  runs_without_a_table runs (inr (inl (file, limit, workers, rounds, asks_profile, inr ended))) = done_and_uncounted (names_of ended.ran.job) runs ended.counted
-  runs_without_a_table runs (inr (inr (inl (file, name, limit, asks_judge, ends, none)))) = let never : Some (profile_asked g 77 4 once) ≡ Some (judge_asked file name limit) = sym asks ∙ asks_judge in absurd (cc)
-  runs_without_a_table runs (inr (inr (inr (inl (file, asks_check, ends, none))))) = let never : Some (profile_asked g 77 4 once) ≡ Some (check_asked file) = sym asks ∙ asks_check in absurd (cc)
-  runs_without_a_table runs (inr (inr (inr (inr (inl (file, asks_upgrade, ends, none)))))) = let never : Some (profile_asked g 77 4 once) ≡ Some (upgrade_asked file) = sym asks ∙ asks_upgrade in absurd (cc)
-  runs_without_a_table runs (inr (inr (inr (inr (inr (inl (same, none, nothing, refused))))))) = absurd (cc)
-  runs_without_a_table runs (inr (inr (inr (inr (inr (inr (inl (same, none, nothing)))))))) = absurd (cc)
-  runs_without_a_table runs (inr (inr (inr (inr (inr (inr (inr (layers, hands, asks_generate, ends, none)))))))) = let never : Some (profile_asked g 77 4 once) ≡ Some (generate_asked layers hands) = sym asks ∙ asks_generate in absurd (cc)
+  runs_without_a_table runs (inl ends) = by_end (subst (λ asked. AskedEnds held asked Done runs None) asks ends)
+    where
+      by_end : ¬ ProfileEnds held g 77 once Done runs None
+      by_end (inl stopped) = never_done_before stopped.why stopped.reported
+      by_end (inr ended) = done_and_uncounted (names_of ended.ran.job) runs ended.counted
+  runs_without_a_table runs (inr (memory, none, nothing)) = absurd (cc)

@@ -7,7 +7,7 @@ use Rattle.std.proofs.lemmas.List.Elements.{All-nil}
 use Rattle.std.proofs.lemmas.Option.{slice_get-get_or}
 use Rattle.call_status.specs.declared.status.Status.{Status}
 use Rattle.call_status.specs.declared.status.Status.TheVariants.{NoMemory}
-use Rattle.command_line.specs.Requests.{Asked, AskedRounds, once, run as run_of, profile as profile_of, judge as judge_of, check as check_of, upgrade as upgrade_of, generate as generate_of}
+use Rattle.command_line.specs.Requests.{Asked, AskedRounds, once, run as run_of, profile as profile_of, judge as judge_of, check as check_of, upgrade as upgrade_of, generate as generate_of, count as count_of}
 use Rattle.nested_runs.specs.Reasons.{run_reason}
 use Rattle.nested_runs.specs.Rounds.{AreAllRounds, AreFirstRounds, AreRounds, IsNextRound, RoundRule}
 use Rattle.nested_runs.specs.declared.reasons.Reason.TheVariants.{Fine}
@@ -131,3 +131,4 @@ no_runs_text (Some (judge_of file name limit)) = refl
 no_runs_text (Some (check_of file)) = refl
 no_runs_text (Some (upgrade_of file)) = refl
 no_runs_text (Some (generate_of layers workers)) = refl
+no_runs_text (Some (count_of word file grain workers)) = refl

@@ -14,7 +14,7 @@ use Rattle.command_line.specs.Requests.{asked_by, upgrade as upgrade_of}
 use Rattle.legal_run.specs.declared.verdict.Verdict.TheVariants.{Complete as Finished}
 use Rattle.flow_run.specs.declared.conclusion.Conclusion.TheVariants as conclusion
 use Rattle.flow_run.specs.Requests.{SourceTexts}
-use Rattle.flow_run.specs.PlanFiles.{IsAfterPlan}
+use Rattle.flow_run.specs.PlanFiles.{IsAfterConclusion}
 use Rattle.flow_run.specs.Upgrades.{IsUpgraded, EndsUpgraded, UpgradeEnds, TakesSamePlan}
 use Rattle.flow_run.specs.Answers.{conclusion_text, output_of, runs_text}
 use Rattle.flow_run.proofs.Completing.{one_plan}
@@ -105,7 +105,7 @@ verdict_of_an_upgrade (inr ended) = let only = ended.only in absurd (cc)
 no_source_after_a_plan : ¬ EndsUpgraded held g (status.NoSource File) (Some (conclusion.GraphFile []))
 no_source_after_a_plan ended = by_status ended.after
   where
-    by_status : ¬ IsAfterPlan (status.NoSource File)
+    by_status : ¬ IsAfterConclusion (status.NoSource File)
     by_status (inl same) = absurd (cc)
     by_status (inr (inl same)) = absurd (cc)
     by_status (inr (inr same)) = absurd (cc)

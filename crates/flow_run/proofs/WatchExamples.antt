@@ -1,7 +1,7 @@
 -- What the watchers of calls are told, on both sides of each line. Watchers are the numbers of spans that they were told.
 use Rattle.std.proofs.Common.{◌≡◌, ◌≢◌, ℕ, ◌+◌, Bool, List, [], ◌∷◌, Some, None, refl, ap, sym, subst, arith}
 use Rattle.std.specs.Prelude.{sum}
-use Rattle.command_line.specs.Requests.{AskedRounds, run as run_asked, profile as profile_asked, judge as judge_asked, check as check_asked, upgrade as upgrade_asked, generate as generate_asked}
+use Rattle.command_line.specs.Requests.{AskedRounds, run as run_asked, profile as profile_asked, judge as judge_asked, check as check_asked, upgrade as upgrade_asked, generate as generate_asked, count as count_asked}
 use Rattle.nested_runs.specs.Totals.{all_spans}
 use Rattle.topology_runs.specs.Told.{AreTold, AreToldEach}
 use Rattle.flow_run.specs.RoundTexts.{TextRun}
@@ -17,8 +17,8 @@ module _ (file name : List ℕ) (rounds : AskedRounds) (journal : Bool) where
   workers_of_a_generated_graph : asked_workers (Some (generate_asked 9 4)) ≡ 4
   workers_of_a_generated_graph = refl
 
-  workers_of_nothing_to_run : (asked_workers (Some (judge_asked file name 9)) ≡ 0) × (asked_workers (Some (check_asked file)) ≡ 0) × (asked_workers (Some (upgrade_asked file)) ≡ 0) × (asked_workers None ≡ 0)
-  workers_of_nothing_to_run = (refl, refl, refl, refl)
+  workers_of_nothing_to_run : (asked_workers (Some (judge_asked file name 9)) ≡ 0) × (asked_workers (Some (check_asked file)) ≡ 0) × (asked_workers (Some (upgrade_asked file)) ≡ 0) × (asked_workers (Some (count_asked name file 9 4)) ≡ 0) × (asked_workers None ≡ 0)
+  workers_of_nothing_to_run = (refl, refl, refl, refl, refl)
 
 abbrev itself : ℕ → ℕ
 itself n = n

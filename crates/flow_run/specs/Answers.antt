@@ -7,13 +7,13 @@ use Rattle.call_status.specs.declared.status.Status.{Status}
 use Rattle.call_status.specs.declared.status.Status.TheVariants.{Done, BadWords, WriteFault, NoMemory}
 use Rattle.call_status.specs.Statuses.{status_after}
 use Rattle.call_status.specs.Stopping.{StoppedBefore}
-use Rattle.command_line.specs.Requests.{Asked, AskedRounds, asked_by, once, run, profile, judge, check, upgrade, generate}
+use Rattle.command_line.specs.Requests.{Asked, AskedRounds, asked_by, once, run, profile, judge, check, upgrade, generate, count}
 use Rattle.nested_runs.specs.Rounds.{AreAllRounds, AreFirstRounds}
 use Rattle.nested_runs.specs.declared.reasons.Reason.{Reason}
 use Rattle.nested_runs.specs.declared.reasons.Reason.TheVariants as reason
 use Rattle.flow_run.specs.declared.conclusion.Conclusion.{Conclusion}
 use Rattle.flow_run.specs.declared.conclusion.GraphProfile.{GraphProfile}
-use Rattle.flow_run.specs.declared.conclusion.Conclusion.TheVariants.{Profile, Verdict, Findings, GraphFile}
+use Rattle.flow_run.specs.declared.conclusion.Conclusion.TheVariants.{Profile, Verdict, Findings, GraphFile, WordLines}
 use Rattle.flow_run.specs.Requests.{SourceTexts, IsRequestedJob, StopsBefore}
 use Rattle.flow_run.specs.RoundTexts.{last_reason, round_rule, rounds_text}
 use Rattle.flow_run.specs.Generated.{IsGeneratedJob, summaries_text}
@@ -22,6 +22,7 @@ use Rattle.flow_run.specs.Profiles.{IsProfileOf, graph_profile_text}
 use Rattle.flow_run.specs.Judgements.{JudgeEnds, verdict_line}
 use Rattle.flow_run.specs.Checks.{CheckEnds, findings_text}
 use Rattle.flow_run.specs.Upgrades.{UpgradeEnds}
+use Rattle.flow_run.specs.Counted.{CountEnds, count_text}
 
 -- The status is that of the run's reason; or that writing failed, where the run ended fine; or, after any run, that
 -- memory ran out.
@@ -61,19 +62,22 @@ ProfileEnds held file limit rounds status runs concluded = StoppedBefore (StopsB
 abbrev pub GenerateEnds : ℕ → Status → List TextRun → Type 0
 GenerateEnds layers status runs = ((status ≡ NoMemory) × (runs ≡ [])) ⊎ RanRounds (IsGeneratedJob layers) once status runs
 
--- How a call ends: the command line asks for a run of a file, or for its profile, or for a judgement of a journal, or for a
--- check of a graph, or for an upgrade of its file, or for nothing, or there is no memory to read it, or it asks for a run
--- of a generated graph.
+-- How a call ends whose command line asks for this: for a run of a file, for its profile, for a judgement of a journal, for a
+-- check of a graph, for an upgrade of its file, for a run of a generated graph, for a count of lines, or for nothing.
+abbrev pub AskedEnds : SourceTexts → Option Asked → Status → List TextRun → Option Conclusion → Type 0
+AskedEnds held (Some (run file limit workers rounds journal)) status runs concluded = RunEnds held file limit rounds status runs × (concluded ≡ None)
+AskedEnds held (Some (profile file limit workers rounds)) status runs concluded = ProfileEnds held file limit rounds status runs concluded
+AskedEnds held (Some (judge file name limit)) status runs concluded = JudgeEnds held file name limit status concluded × (runs ≡ [])
+AskedEnds held (Some (check file)) status runs concluded = CheckEnds held file status concluded × (runs ≡ [])
+AskedEnds held (Some (upgrade file)) status runs concluded = UpgradeEnds held file status concluded × (runs ≡ [])
+AskedEnds held (Some (generate layers workers)) status runs concluded = GenerateEnds layers status runs × (concluded ≡ None)
+AskedEnds held (Some (count word file grain workers)) status runs concluded = CountEnds held word file status concluded × (runs ≡ [])
+AskedEnds held None status runs concluded = (status ≡ BadWords) × (runs ≡ []) × (concluded ≡ None)
+
+-- How a call ends: as what its command line asks for does; or there is no memory to read it.
 abbrev pub CallEnds : SourceTexts → List (List ℕ) → Status → List TextRun → Option Conclusion → Type 0
-CallEnds held arguments status runs conclusion =
-    ((file : List ℕ) × (limit : ℕ) × (workers : ℕ) × (rounds : AskedRounds) × (journal : Bool) × (asked_by arguments ≡ Some (run file limit workers rounds journal)) × RunEnds held file limit rounds status runs × (conclusion ≡ None))
-    ⊎ ((file : List ℕ) × (limit : ℕ) × (workers : ℕ) × (rounds : AskedRounds) × (asked_by arguments ≡ Some (profile file limit workers rounds)) × ProfileEnds held file limit rounds status runs conclusion)
-    ⊎ ((file : List ℕ) × (name : List ℕ) × (limit : ℕ) × (asked_by arguments ≡ Some (judge file name limit)) × JudgeEnds held file name limit status conclusion × (runs ≡ []))
-    ⊎ ((file : List ℕ) × (asked_by arguments ≡ Some (check file)) × CheckEnds held file status conclusion × (runs ≡ []))
-    ⊎ ((file : List ℕ) × (asked_by arguments ≡ Some (upgrade file)) × UpgradeEnds held file status conclusion × (runs ≡ []))
-    ⊎ ((status ≡ BadWords) × (runs ≡ []) × (conclusion ≡ None) × (asked_by arguments ≡ None))
-    ⊎ ((status ≡ NoMemory) × (runs ≡ []) × (conclusion ≡ None))
-    ⊎ ((layers : ℕ) × (workers : ℕ) × (asked_by arguments ≡ Some (generate layers workers)) × GenerateEnds layers status runs × (conclusion ≡ None))
+CallEnds held arguments status runs concluded =
+    AskedEnds held (asked_by arguments) status runs concluded ⊎ ((status ≡ NoMemory) × (runs ≡ []) × (concluded ≡ None))
 
 -- what is written of the runs that are kept: their reports or journals, where a run is asked for; of a generated graph's run
 -- its summary
@@ -89,6 +93,7 @@ conclusion_text (Some (Profile counts)) = graph_profile_text counts
 conclusion_text (Some (Verdict verdict)) = verdict_line verdict
 conclusion_text (Some (Findings found)) = findings_text found
 conclusion_text (Some (GraphFile text)) = text
+conclusion_text (Some (WordLines lines)) = count_text lines
 
 -- what is written to the output: of the runs that are kept, and of the conclusion
 abbrev pub output_of : List (List ℕ) → List TextRun → Option Conclusion → List ℕ

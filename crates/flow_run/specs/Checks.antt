@@ -12,7 +12,7 @@ use Rattle.flow_run.specs.declared.conclusion.Conclusion.{Conclusion}
 use Rattle.flow_run.specs.declared.conclusion.Conclusion.TheVariants as conclusion
 use Rattle.flow_run.specs.declared.conclusion.GraphFindings.{GraphFindings}
 use Rattle.flow_run.specs.Requests.{SourceTexts, IsHeld, file_limit}
-use Rattle.flow_run.specs.PlanFiles.{StopsBeforePlan, IsAfterPlan}
+use Rattle.flow_run.specs.PlanFiles.{StopsBeforePlan, IsAfterConclusion}
 
 -- the findings on a graph, with its name and those of its tasks
 pub record AreFindingsOn (graph : GraphRows) (found : GraphFindings) : Type 0 where
@@ -40,7 +40,7 @@ pub record EndsChecked (held : SourceTexts) (file : List ℕ) (status : Status) 
   pub found : List GraphFindings
   pub only : concluded ≡ Some (conclusion.Findings found)
   pub checked : IsChecked held file found
-  pub after : IsAfterPlan status
+  pub after : IsAfterConclusion status
 
 -- How a call ends that is to check a graph: before the plan, for a reason that the status has, or with its findings, of
 -- which the status says nothing.

@@ -9,6 +9,7 @@ pub mod PlainRounds
 pub mod PlainProfiles
 pub mod Profiles
 pub mod Generated
+pub mod Counted
 pub mod Watched
 pub mod Answers
 pub mod Completion

@@ -17,9 +17,9 @@ pub record StopsAtFile (held : SourceTexts) (file : List ℕ) (stop : Stop) : Ty
 abbrev pub StopsBeforePlan : SourceTexts → List ℕ → Stop → Type 0
 StopsBeforePlan held file stop = StopsAtName held file file_limit stop ⊎ StopsAtFile held file stop
 
--- With a plan the call is done; or the output failed, or memory ran out.
-abbrev pub IsAfterPlan : Status → Type 0
-IsAfterPlan status = (status ≡ Done) ⊎ (status ≡ WriteFault) ⊎ (status ≡ NoMemory)
+-- With its conclusion the call is done; or the output failed, or memory ran out.
+abbrev pub IsAfterConclusion : Status → Type 0
+IsAfterConclusion status = (status ≡ Done) ⊎ (status ≡ WriteFault) ⊎ (status ≡ NoMemory)
 
 -- What such a call needs is held: the file has no more bytes than may be read, and stands for a plan.
 pub record HoldsPlan (text : List ℕ → Option (List ℕ)) (file : List ℕ) : Type 0 where

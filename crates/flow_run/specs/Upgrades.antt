@@ -9,7 +9,7 @@ use Rattle.call_status.specs.Stopping.{StoppedBefore}
 use Rattle.flow_run.specs.declared.conclusion.Conclusion.{Conclusion}
 use Rattle.flow_run.specs.declared.conclusion.Conclusion.TheVariants as conclusion
 use Rattle.flow_run.specs.Requests.{SourceTexts, IsHeld, file_limit}
-use Rattle.flow_run.specs.PlanFiles.{StopsBeforePlan, IsAfterPlan}
+use Rattle.flow_run.specs.PlanFiles.{StopsBeforePlan, IsAfterConclusion}
 
 -- the text that is written for the plan for which the bytes held under the file's name stand; it stands for that plan too
 pub record IsUpgraded (held : SourceTexts) (file text : List ℕ) : Type 0 where
@@ -25,7 +25,7 @@ pub record EndsUpgraded (held : SourceTexts) (file : List ℕ) (status : Status)
   pub text : List ℕ
   pub only : concluded ≡ Some (conclusion.GraphFile text)
   pub upgraded : IsUpgraded held file text
-  pub after : IsAfterPlan status
+  pub after : IsAfterConclusion status
 
 -- How a call ends that is to upgrade a graph file: before the plan, for a reason that the status has, or after it.
 abbrev pub UpgradeEnds : SourceTexts → List ℕ → Status → Option Conclusion → Type 0

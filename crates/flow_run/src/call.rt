@@ -21,6 +21,7 @@ ghost use Rattle.text_tasks.specs.declared.job.TextJob.{TextJob};
 
 use super::check_command::check_file;
 use super::conclusion::Conclusion;
+use super::count_command::count_file;
 use super::generate_command::run_generated;
 use super::judge_command::judge_file;
 use super::profile_command::profile_file;
@@ -45,7 +46,8 @@ pub struct CallResult {
     pub status: Status,
     /// The runs that were run to their end, round after round.
     pub runs: List<FrameRun<TextJob>>,
-    /// What was concluded: the judge's verdict, the findings on a graph, its new file, or the profile of the runs.
+    /// What was concluded: the judge's verdict, the findings on a graph, its new file, the profile of the runs, or the number
+    /// of lines that were counted.
     pub conclusion: Option<Conclusion>,
     /// The watchers that were handed in. Those of the workers were told the spans of the runs.
     pub watchers: Vec<Box<dyn Watch + Send>>,
@@ -71,7 +73,8 @@ impl CallResult {
 /// would of each; `profile FILE` runs it so too, and writes a table of what each task did; `judge FILE JOURNAL` reads the
 /// journal file of that name besides, and writes the judge's verdict; `check FILE` writes how the graph can go wrong;
 /// `upgrade FILE` writes the graph as a file of the newest version; `generate N` runs the generated graph of so many
-/// layers, and writes a summary of its run. The line of the status goes to `notes`, the diagnostics sink. Each worker
+/// layers, and writes a summary of its run; `count WORD FILE` reads the text of that name, and writes in how many of its
+/// lines the word occurs. The line of the status goes to `notes`, the diagnostics sink. Each worker
 /// tells a watcher the spans that end in its steps, the first worker the first watcher. There are no more workers than
 /// watchers, but for one where there is none. A watcher that answers `NoMemory` ends the call so. `rt` makes the threads
 /// of several workers and waits for them, so it isn't proved that the call returns.
@@ -88,8 +91,8 @@ pub fn flow_main<F: Texts, S: Sink, N: Sink, R: Threads + Wait + Sync>(
     requires nothing_held_on_notes { (N.state notes.old).held_back ≡ [] }
     // The status has its cause; the kept runs are the rounds that are asked for of the graph that FILE holds, each legal
     // and complete, or the first of them where memory ran out, and the profile is theirs; the verdict is that on the
-    // journal that JOURNAL holds, the findings are those on the graph that FILE holds, and the new file is one for that
-    // graph.
+    // journal that JOURNAL holds, the findings are those on the graph that FILE holds, the new file is one for that graph,
+    // and the lines that were counted are those of the text that FILE holds in which WORD occurs.
     ensures ends { CallEnds (F.held texts.old) (map string_bytes words.now) result.status
         result.runs result.conclusion }
     // Where that is at hand, no read and no write fails and no run is cut short, all is done.
@@ -113,7 +116,7 @@ pub fn flow_main<F: Texts, S: Sink, N: Sink, R: Threads + Wait + Sync>(
         (S.state out.old).taken (S.state out.new).taken
         (NothingFails F.failed S.state texts.old texts.new out.old out.new) result.status }
     // The output took the reports or the journals of the kept runs, or their profile, or the verdict's line, or the
-    // findings, or the new file; where it failed or an allocation did, a prefix of it. Where no run is kept and nothing
+    // findings, or the new file, or the number of the lines; where it failed or an allocation did, a prefix of it. Where no run is kept and nothing
     // was concluded, it is left alone.
     ensures output { HasWritten S.state out.old out.new result.status
         ((result.runs ≡ []) × (result.conclusion ≡ None))
@@ -184,6 +187,7 @@ fn answer<F: Texts, S: Sink, R: Threads + Wait + Sync>(
         Ok(Request::Check(check)) => check_file(alloc, check, texts, out),
         Ok(Request::Upgrade(upgrade)) => upgrade_file(alloc, upgrade, texts, out),
         Ok(Request::Generate(asked)) => run_generated(rt, alloc, asked, out, watchers),
+        Ok(Request::Count(asked)) => count_file(rt, alloc, asked, texts, out),
         Err(ArgumentsError::Refused) => stopped(alloc, Status::BadWords),
         Err(ArgumentsError::NoMemory) => stopped(alloc, Status::NoMemory),
     }

@@ -7,7 +7,7 @@ ghost use Rattle.pitfall_check.specs.Pitfalls.{BeginsWithoutTokens};
 ghost use Rattle.call_status.specs.Delivery.{Delivers};
 ghost use Rattle.flow_run.specs.Answers.{HasWritten, conclusion_text};
 ghost use Rattle.flow_run.specs.Checks.{AreFindingsOn, AreFindingsOnAll, CheckEnds, IsChecked, count_line, finding_count, finding_line, findings_text, graph_line, graph_lines};
-ghost use Rattle.flow_run.specs.PlanFiles.{IsAfterPlan, StopsBeforePlan};
+ghost use Rattle.flow_run.specs.PlanFiles.{IsAfterConclusion, StopsBeforePlan};
 ghost use Rattle.flow_run.specs.Reads.{FailsBy, HaveRead};
 
 use super::call::{Ended, stopped};
@@ -98,7 +98,7 @@ pub(crate) fn copies(alloc: Global, names: &[Bytes]) -> Result<List<Bytes>, NoMe
 // Writes what was found.
 fn report_findings<S: Sink>(alloc: Global, found: List<GraphFindings>, out: &mut S) -> Ended
     requires { (S.state out.old).held_back ≡ [] }
-    ensures after { IsAfterPlan result.status }
+    ensures after { IsAfterConclusion result.status }
     ensures conclusion { result.conclusion ≡ Some (Conclusion.Findings found) }
     ensures output { HasWritten S.state out.old out.new result.status (result.conclusion ≡ None)
         (conclusion_text result.conclusion) result.written }

@@ -16,6 +16,8 @@ pub enum Conclusion {
     Findings(List<GraphFindings>),
     /// A graph file of the newest version, with the same plan as the one that was read.
     GraphFile(Bytes),
+    /// In how many lines of a text a word occurs.
+    WordLines(u64),
 }
 
 /// How a graph can go wrong.

@@ -1,5 +1,5 @@
 // The command `generate`.
-ghost use Rattle.std.specs.Prelude.{◌≡◌, ◌≢◌, ◌≤◌, ◌<◌, ◌++◌, ◌*◌, ◌+◌, [], None, All, IfOk, IsOk, OnOk, length, slice_index_or};
+ghost use Rattle.std.specs.Prelude.{◌≡◌, ◌≢◌, ◌≤◌, ◌<◌, ◌*◌, ◌+◌, [], None, All, IfOk, IsOk, length, slice_index_or};
 ghost use Rattle.std.specs.Option.{option_and_then, option_map_or};
 ghost use Rattle.outside_io.specs.Sink.{Writes};
 ghost use Rattle.call_status.specs.Delivery.{Delivers};
@@ -13,11 +13,12 @@ ghost use Rattle.text_tasks.specs.declared.item.Item.{Item};
 ghost use Rattle.text_tasks.specs.Items.{item_text};
 ghost use Rattle.text_tasks.specs.JobMeaning.{IsGraphJob, net_of, text_job};
 ghost use Rattle.flow_run.specs.Answers.{GenerateEnds, HasWritten, JobEnds};
-ghost use Rattle.flow_run.specs.Generated.{IsGeneratedJob, number_line, summaries_text, summary_text};
+ghost use Rattle.flow_run.specs.Generated.{IsGeneratedJob, summaries_text, summary_text};
 ghost use Rattle.flow_run.specs.Watched.{HaveSeen};
 ghost use Rattle.flow_run.specs.inside.RisingValues.{AreRising};
 
 use super::call::{Ended, stopped};
+use super::number_line::add_number_line;
 use super::report::last_value;
 use super::round_ends::{after_runs, last_reason, status_of_rounds};
 use super::workers::{RoundsRun, run_rounds};
@@ -25,7 +26,7 @@ use call_status::{Status, flushed};
 use command_line::{GREATEST_LIMIT, Generate, Rounds};
 use graph_generator::{Generated, generate};
 use nested_runs::{inner_starts, starts};
-use outside_io::{Bytes, List, NoMemory, Sink, SinkFault, add_numbered, put_piece};
+use outside_io::{Bytes, List, NoMemory, Sink, SinkFault, put_piece};
 use run_frame::{FrameRun, Job, ValueRow, last_ends};
 use span_profile::Watch;
 use std::alloc::Global;
@@ -183,15 +184,6 @@ fn summary_of(alloc: Global, layers: u64, run: &FrameRun<TextJob>) -> Result<Byt
         lines_of_last(&ends, values, sum + PIPELINE),
     )?;
     Ok(summary)
-}
-
-// Adds a line of these words and a number.
-fn add_number_line(summary: &mut Bytes, words: &[u8], number: u64) -> Result<(), NoMemory>
-    ensures { OnOk result (summary.new ≡ summary.old ++ number_line words.now number) }
-{
-    add_numbered(summary, words, number)?;
-    summary.push(b'\n')?;
-    Ok(())
 }
 
 // How many lines the text has with which a task ended last.

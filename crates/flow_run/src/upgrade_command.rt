@@ -1,7 +1,7 @@
 // The command `upgrade`.
 ghost use Rattle.std.specs.Prelude.{◌≡◌, [], None, Some, IfErr, IfOk};
 ghost use Rattle.flow_run.specs.Answers.{HasWritten, conclusion_text};
-ghost use Rattle.flow_run.specs.PlanFiles.{IsAfterPlan, StopsBeforePlan};
+ghost use Rattle.flow_run.specs.PlanFiles.{IsAfterConclusion, StopsBeforePlan};
 ghost use Rattle.flow_run.specs.Reads.{FailsBy, HaveRead};
 ghost use Rattle.flow_run.specs.Upgrades.{IsUpgraded, UpgradeEnds};
 
@@ -51,7 +51,7 @@ fn upgraded<F: Texts>(alloc: Global, texts: &mut F, file: &[u8]) -> Result<Bytes
 // Writes these bytes to the output in one piece, and flushes it.
 fn write_upgraded<S: Sink>(alloc: Global, text: Bytes, out: &mut S) -> Ended
     requires { (S.state out.old).held_back ≡ [] }
-    ensures after { IsAfterPlan result.status }
+    ensures after { IsAfterConclusion result.status }
     ensures conclusion { result.conclusion ≡ Some (Conclusion.GraphFile text) }
     ensures output { HasWritten S.state out.old out.new result.status (result.conclusion ≡ None)
         (conclusion_text result.conclusion) result.written }

@@ -1,0 +1,2 @@
+pub mod WordFolds
+pub mod inside

@@ -1,0 +1,2 @@
+-- Internal: the places that an index keeps.
+pub mod Marks

@@ -1,0 +1,14 @@
+//! Folds over the lines of a text.
+//!
+//! `count_lines_with` counts the lines in which a word occurs, by several workers that draw chunks of lines. It is the
+//! fold `WordFold`, which has a line for each index: 1 where the word occurs in it, else 0. A chunk is searched in one
+//! go. Where its first line begins is found by a `LineIndex`, which keeps the place of each 64th line.
+//!
+//! `specs/WordFolds.antt` says what the fold computes.
+#![tactic(auto)]
+
+mod line_index;
+mod word_fold;
+
+pub use line_index::LineIndex;
+pub use word_fold::{WordFold, count_lines_with};
