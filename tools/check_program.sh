@@ -1,6 +1,6 @@
 #!/usr/bin/env bash
 # Runs the built program on each of the examples, also by 1, 4 and 16 workers and in version 2 of its graph file, on graphs
-# with semaphores and pipelines, for rounds and profiles, on command lines and files that it refuses, on texts of which one can't be read,
+# with semaphores and pipelines, for rounds and profiles, for lines with a word, on command lines and files that it refuses, on texts of which one can't be read,
 # on outputs that fail and without memory, and compares its exit code, standard output and standard error; and counts the
 # threads of runs by several workers. Prints a line for each difference, and ends with status 1 where there is one. Its one
 # argument is the program; without it that of the last build is run.
@@ -141,11 +141,30 @@ refused 2 'flow: bad words' generate 901
 refused 2 'flow: bad words' generate 1 2
 refused 2 'flow: bad words' generate 1 --workers 17
 refused 2 'flow: bad words' generate 1 --limit 5
+refused 2 'flow: bad words' count
+refused 2 'flow: bad words' count ERROR
+refused 2 'flow: bad words' count ERROR "$count" --grain 0
+refused 2 'flow: bad words' count ERROR "$count" --grain 1000001
+refused 2 'flow: bad words' count ERROR "$count" --grain 1 --grain 1
+refused 2 'flow: bad words' count ERROR "$count" --workers 17
+refused 5 'flow: no text nowhere.log' count ERROR nowhere.log
+refused 6 'flow: read fault on examples' count ERROR examples
 refused 5 'flow: no text nowhere.json' run nowhere.json
 refused 5 'flow: no text t.txt' run "$count"
 refused 5 'flow: no text t.txt' profile "$count"
 refused 6 'flow: read fault on examples' run examples
 refused 3 'flow: bad graph: not JSON' run examples/count-lines/t.txt
+
+# The lines in which a word occurs, by several workers, in chunks of several sizes, beside those that grep counts.
+for word in ERROR upload '' nowhere; do
+    echo "lines $(grep -cF -- "$word" examples/log-triage/server.log)" >"$seen/wanted_out"
+    for workers in 1 4 16; do
+        for grain in 1 3 1000; do
+            call count "$word" examples/log-triage/server.log --workers "$workers" --grain "$grain"
+            compare "the lines with '$word' by $workers workers in chunks of $grain" 0 "$seen/wanted_out" /dev/null
+        done
+    done
+done
 
 # A number of rounds, also none, and rounds until a word occurs.
 cd examples/count-lines

@@ -29,7 +29,8 @@ UNCLAIMED = {
     "cited only by the law that text jobs are plain": (
         "run_laws/specs/PlainJobs.antt: IsGraphJob IsInside IsPlainly",
     ),
-    "a proof itself: a law that the trait Job asks of text jobs, or one that it stands on": (
+    "a proof itself: a law that the trait Job asks of text jobs, or Fold of folds, or one that it stands on": (
+        "line_folds/specs/WordFolds.antt: word_fold_lawful",
         "text_tasks/specs/JobLaws.antt: text_answers_fit text_faults_own text_gather_faults_own"
         " graph_in_plan graph_of_work op_count",
     ),

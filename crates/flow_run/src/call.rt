@@ -70,14 +70,14 @@ impl CallResult {
 /// first mention, the texts that it names, runs its top graph to the end, by as many workers as it says, and writes the
 /// run's report to `out`, or with `--journal` its journal; with `--times` or `--until` it runs the graph round after
 /// round, each with what the last task of the round before ended with as its input, and once all are run writes what it
-/// would of each; `profile FILE` runs it so too, and writes a table of what each task did; `judge FILE JOURNAL` reads the
-/// journal file of that name besides, and writes the judge's verdict; `check FILE` writes how the graph can go wrong;
-/// `upgrade FILE` writes the graph as a file of the newest version; `generate N` runs the generated graph of so many
-/// layers, and writes a summary of its run; `count WORD FILE` reads the text of that name, and writes in how many of its
-/// lines the word occurs. The line of the status goes to `notes`, the diagnostics sink. Each worker
-/// tells a watcher the spans that end in its steps, the first worker the first watcher. There are no more workers than
-/// watchers, but for one where there is none. A watcher that answers `NoMemory` ends the call so. `rt` makes the threads
-/// of several workers and waits for them, so it isn't proved that the call returns.
+/// would of each; `profile FILE` runs it so too, and writes a table of what each task did; `judge FILE JOURNAL` reads
+/// the journal file of that name besides, and writes the judge's verdict; `check FILE` writes how the graph can go
+/// wrong; `upgrade FILE` writes the graph as a file of the newest version; `generate N` runs the generated graph of so
+/// many layers, and writes a summary of its run; `count WORD FILE` reads the text of that name, and writes in how many
+/// of its lines the word occurs. The line of the status goes to `notes`, the diagnostics sink. Each worker tells a
+/// watcher the spans that end in its steps, the first worker the first watcher. There are no more workers than
+/// watchers, but for one where there is none. A watcher that answers `NoMemory` ends the call so. `rt` makes the
+/// threads of several workers and waits for them, so it isn't proved that the call returns.
 pub fn flow_main<F: Texts, S: Sink, N: Sink, R: Threads + Wait + Sync>(
     rt: &R,
     alloc: Global,

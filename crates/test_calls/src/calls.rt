@@ -18,13 +18,13 @@ pub const COUNT: &str = r#"{"tasks":[
     {"name":"a","op":"read","text":"t","to":["b"]},
     {"name":"b","op":"count"}]}"#;
 
-// A call: its words, with a space between two, or `-` for none, where `''` is the empty word and `_` a space in a word;
-// the texts `t`, `u` and `v` that it finds, with ` / ` between two, where `-` is none; what fails in it (`read CALL`,
-// `put CALL TAKEN`, `note CALL TAKEN`, or `span PLACE` among all spans that its watchers are told), how many watchers it
-// has in place of 16 (`watchers COUNT`), that the totals of its runs are seen too (`totals`), or what their pipelines
-// started (`tokens`, and behind it the order of which they start a prefix where they end by a fault), or `-`; and what is
-// seen of it: the exit code, whether all was written and noted, the entries of each run, then what the output took, then
-// what standard error took. `|` ends a line of a text.
+// A call: its words, with a space between two, or `-` for none, where `''` is the empty word, `_` a space in a word
+// and `|` a line end in one; the texts `t`, `u` and `v` that it finds, with ` / ` between two, where `-` is none; what
+// fails in it (`read CALL`, `put CALL TAKEN`, `note CALL TAKEN`, or `span PLACE` among all spans that its watchers are
+// told), how many watchers it has in place of 16 (`watchers COUNT`), that the totals of its runs are seen too
+// (`totals`), or what their pipelines started (`tokens`, and behind it the order of which they start a prefix where
+// they end by a fault), or `-`; and what is seen of it: the exit code, whether all was written and noted, the entries
+// of each run, then what the output took, then what standard error took. `|` ends a line of a text.
 #[derive(Clone, Copy)]
 pub struct Row<'r> {
     pub words: &'r str,

@@ -15,7 +15,8 @@ fn words_of(alloc: Global, words: &str) -> Result<Vec<String>, AllocError> {
     }
     for word in words.split(' ') {
         let word = if word == "''" { "" } else { word };
-        strings.push(word.replace(alloc, "_", " ")?)?;
+        let word = word.replace(alloc, "_", " ")?;
+        strings.push(word.replace(alloc, "|", "\n")?)?;
     }
     Ok(strings)
 }

@@ -1,9 +1,9 @@
 // The calls of all tables.
 use crate::calls::{Table, first_difference};
 use crate::{
-    bad_graphs, check_calls, faults, generate_calls, judge_calls, lengths, module_calls,
-    operations, pipe_calls, profile_calls, refused_spans, round_calls, runs, semaphore_calls,
-    upgrade_calls, words,
+    bad_graphs, check_calls, count_calls, faults, generate_calls, judge_calls, lengths,
+    module_calls, operations, pipe_calls, profile_calls, refused_spans, round_calls, runs,
+    semaphore_calls, upgrade_calls, words,
 };
 use std::test::Fail;
 
@@ -55,8 +55,9 @@ fn profiles_answer_as_their_tables_say(rt: HostRuntime) -> Result<(), Fail> {
 
 #[test]
 fn other_calls_answer_as_their_tables_say(rt: HostRuntime) -> Result<(), Fail> {
-    let tables: [&[Table]; 8] = [
+    let tables: [&[Table]; 9] = [
         &check_calls::TABLES,
+        &count_calls::TABLES,
         &generate_calls::TABLES,
         &upgrade_calls::TABLES,
         &judge_calls::TABLES,

@@ -17,6 +17,17 @@ generate 901
 generate 1 2
 generate 1 --limit 9
 generate 1 --workers 17
+count
+count b
+count b t u
+count b t --grain
+count b t --grain 0
+count b t --grain 1000001
+count b t --grain +4
+count b t --grain 1 --grain 1
+count b t --workers 0
+count b t --workers 17
+count b t --limit 9
 run g g
 run g --help
 run g --workers
