@@ -17,7 +17,7 @@ CLAUSE = re.compile(r"ensures ([a-z_0-9]+) \{((?:[^{}]|\{[^{}]*\})*)\}")
 # Crates whose definitions are the claims' own nets and journals, or serve tests alone, and libraries that no clause of
 # flow_main cites: of what these say only their tests compute examples.
 EXAMPLES = ("claims", "library_tour", "test_async", "test_grains", "test_jobs")
-LIBRARIES = ("async_tasks", "grain_tasks")
+LIBRARIES = ("async_tasks",)
 # The definitions without a claim, by the reason.
 UNCLAIMED = {
     "what a law says of every run, where no run can fail it; the law's proof ties it": (
@@ -25,6 +25,9 @@ UNCLAIMED = {
         "run_laws/specs/JudgeLaw.antt: IsJudgedComplete JudgesKept",
         "run_laws/specs/PlainLaws.antt: IsPlainRun RunsPlainly",
         "report_laws/specs/PlainReport.antt: HasSameReport ReportsPlainly",
+    ),
+    "what a law says of every fold, where no fold can fail it; the law's proof ties it": (
+        "grain_tasks/specs/Chunks.antt: JoinsChunks",
     ),
     "cited only by the law that text jobs are plain": (
         "run_laws/specs/PlainJobs.antt: IsGraphJob IsInside IsPlainly",

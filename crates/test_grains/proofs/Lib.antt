@@ -1,1 +1,2 @@
 pub mod Concatenation
+pub mod WorkedChunks
