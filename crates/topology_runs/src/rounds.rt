@@ -26,7 +26,8 @@ pub struct Short<J: Recurs> {
 }
 
 /// Runs a job so many times, unless something is cut short in a run. The watchers, if there are any, are together told
-/// as many spans as the rounds have, with the runs inside them. `Err` comes only if an allocation fails.
+/// as many spans as the rounds have, with the runs inside them. `Err` comes only if an allocation fails; the team then runs
+/// no further job.
 pub fn run_times<J: Recurs + Drop, X: Watch, E: EntersEach<J, X>, R: Threads + Wait + Sync>(
     rt: &R,
     alloc: Global,
@@ -39,6 +40,7 @@ pub fn run_times<J: Recurs + Drop, X: Watch, E: EntersEach<J, X>, R: Threads + W
     ensures rounds { IfOk result (AreAllRounds J.Job.meaning (arc_value job.now) (times count)) }
     ensures short { IfErr result
         (λ short. AreFirstRounds J.Job.meaning (arc_value job.now) (times count) short.runs) }
+    ensures ready { OnOk result (IsReady team.new) }
     ensures watchers { IfOk result (λ runs. watchers_of team.old ≢ []
         → AreToldRounds X.told runs (watchers_of team.old) (watchers_of team.new)) }
     ensures count { length (watchers_of team.new) ≡ length (watchers_of team.old) }
@@ -48,7 +50,7 @@ pub fn run_times<J: Recurs + Drop, X: Watch, E: EntersEach<J, X>, R: Threads + W
 
 /// Runs a job until a test of the rounds is met, at most so many times, unless something is cut short in a run. The
 /// watchers, if there are any, are together told as many spans as the rounds have, with the runs inside them. `Err`
-/// comes only if an allocation fails.
+/// comes only if an allocation fails; the team then runs no further job.
 pub fn run_until<
     J: Recurs + Drop,
     X: Watch,
@@ -70,6 +72,7 @@ pub fn run_until<
     ensures short { IfErr result
         (λ short. AreFirstRounds J.Job.meaning (arc_value job.now)
         (record { most = most; ends = U.ends until.now }) short.runs) }
+    ensures ready { OnOk result (IsReady team.new) }
     ensures watchers { IfOk result (λ runs. watchers_of team.old ≢ []
         → AreToldRounds X.told runs (watchers_of team.old) (watchers_of team.new)) }
     ensures count { length (watchers_of team.new) ≡ length (watchers_of team.old) }
@@ -106,6 +109,7 @@ fn add_rounds<
         (record { most = most; ends = U.ends until.now }) runs.new.items) }
     ensures err { OnErr result (AreFirstRounds J.Job.meaning (arc_value first.now)
         (record { most = most; ends = U.ends until.now }) runs.new.items) }
+    ensures ready { OnOk result (IsReady team.new) }
     ensures watchers { OnOk result (watchers_of team.old ≢ []
         → AreToldRounds X.told runs.new.items (watchers_of team.old) (watchers_of team.new)) }
     ensures count { length (watchers_of team.new) ≡ length (watchers_of team.old) }
