@@ -1,5 +1,6 @@
 // The command `count`.
 ghost use Rattle.std.specs.Prelude.{◌≡◌, [], None, Some, IfErr, IfOk};
+ghost use Rattle.outside_io.specs.Sink.{Writes};
 ghost use Rattle.call_status.specs.Delivery.{Delivers};
 ghost use Rattle.flow_run.specs.Answers.{HasWritten, conclusion_text};
 ghost use Rattle.flow_run.specs.Counted.{CountEnds, IsCounted, count_text};
@@ -11,10 +12,10 @@ use super::call::{Ended, stopped};
 use super::conclusion::Conclusion;
 use super::inputs::{TEXT_LIMIT, read_named};
 use super::number_line::add_number_line;
-use call_status::{Status, Stop, deliver};
+use call_status::{Status, Stop, flushed};
 use command_line::Count;
 use line_folds::count_lines_with;
-use outside_io::{Bytes, List, NoMemory, Sink, SinkFault, Texts};
+use outside_io::{Bytes, List, NoMemory, Sink, SinkFault, Texts, put_piece};
 use std::alloc::Global;
 use std::thread::Threads;
 use text_ops::Text;
@@ -83,17 +84,26 @@ fn write_count<S: Sink>(alloc: Global, lines: u64, out: &mut S) -> Ended
     }
 }
 
-// Writes the line of a number to the output, and flushes it.
+// Writes the line of a count to the output, and flushes it.
 fn deliver_count<S: Sink>(alloc: Global, out: &mut S, lines: u64) -> Result<(), SinkFault>
     requires { (S.state out.old).held_back ≡ [] }
     ensures { Delivers (S.state out.old) (S.state out.new) (count_text lines) result }
 {
-    let line = count_line(alloc, lines)?;
-    deliver(out, line.as_slice())
+    let written = put_count_text(alloc, out, lines);
+    flushed(out, written)
 }
 
-// The line of a number.
-fn count_line(alloc: Global, lines: u64) -> Result<Bytes, NoMemory>
+// Writes the line of a count.
+#[tactic(auto, using(outside_io::proofs::Pieces::writes_nothing))]
+fn put_count_text<S: Sink>(alloc: Global, out: &mut S, lines: u64) -> Result<(), SinkFault>
+    ensures { Writes (S.state out.old) (S.state out.new) (count_text lines) result }
+{
+    let line = count_text(alloc, lines)?;
+    put_piece(out, line.as_slice())
+}
+
+// The line of a count.
+fn count_text(alloc: Global, lines: u64) -> Result<Bytes, NoMemory>
     ensures { IfOk result (λ line. line ≡ count_text lines) }
 {
     let mut line = List::new(alloc);
