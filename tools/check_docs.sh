@@ -1,5 +1,5 @@
 #!/usr/bin/env bash
-# Holds README.md and docs/ against the sources. Prints nothing where they agree; else a line for each
+# Holds README.md, docs/, the manual page and the completion against the sources. Prints nothing where they agree; else a line for each
 # difference, and ends with status 1. A check that finds nothing to look at is a difference too.
 set -euo pipefail
 cd "$(dirname "${BASH_SOURCE[0]}")/.."
@@ -24,7 +24,7 @@ find_each() {
     ((${#found[@]} > 0)) || fault "there is nothing to check: $1"
 }
 
-documents=(README.md docs/LIBRARY.md docs/THEOREM.md docs/PROVED.md docs/ARCHITECTURE.md docs/DEFINITIONS.md docs/FORMATS.md docs/DECISIONS.md docs/TESTING.md)
+documents=(README.md docs/LIBRARY.md docs/THEOREM.md docs/PROVED.md docs/ARCHITECTURE.md docs/DEFINITIONS.md docs/FORMATS.md docs/HANDBOOK.md docs/DECISIONS.md docs/TESTING.md)
 for document in "${documents[@]}"; do
     if [[ ! -f $document ]]; then
         fault "$document isn't there"
@@ -102,8 +102,10 @@ python3 -B tools/list_theorem.py --check || fault "docs/THEOREM.md names other d
 # Each definition that public clauses cite has a claim, or the tool has the reason why it has none.
 python3 -B tools/list_claims.py --check || fault "tools/list_claims.py finds definitions without a claim, or reasons that aren't needed"
 
-# The code in docs/LIBRARY.md is that of crates that the gate proves and runs.
+# The code in docs/LIBRARY.md is that of crates that the gate proves and runs. The graph files and scripts in docs/HANDBOOK.md
+# are those of examples.
 python3 -B tools/quoted_code.py docs/LIBRARY.md library_tour async_tasks grain_tasks test_async test_grains || fault "docs/LIBRARY.md quotes other code than there is"
+python3 -B tools/quoted_code.py docs/HANDBOOK.md examples/ || fault "docs/HANDBOOK.md quotes other files than those of examples"
 
 # Each file of the repository that a document links to or names in code letters is there.
 find_each "links" < <(matches '\]\([^)#: ]+' | sed 's/ ](/ /')
@@ -128,11 +130,15 @@ for match in "${found[@]}"; do
     [[ -e ${match#* } ]] || fault "${match%% *} names ${match#* }, which isn't there"
 done
 
-# docs/FORMATS.md is where limits stand: README.md has no other number of thousands.
-find_each "numbers of thousands in README.md" < <(grep -oE '[0-9]{1,3}(,[0-9]{3})+' README.md | sort -u)
-for number in "${found[@]}"; do
-    has docs/FORMATS.md "$number" || fault "README.md has a limit of $number, which docs/FORMATS.md hasn't"
+# docs/FORMATS.md is where limits stand: README.md and the manual page have no other number of thousands.
+find_each "numbers of thousands" < <(grep -oE '[0-9]{1,3}(,[0-9]{3})+' README.md man/flow.1 | sed 's/:/ /' | sort -u)
+for match in "${found[@]}"; do
+    has docs/FORMATS.md "${match#* }" || fault "${match% *} has a limit of ${match#* }, which docs/FORMATS.md hasn't"
 done
+
+# It is where commands, options, operations and fields stand, as the program's definitions have them. The manual page and the
+# completion are made from it.
+python3 -B tools/manual.py --check || fault "the command line isn't the same everywhere; see tools/manual.py --help"
 
 # It is where exit codes stand, with the numbers of the definition. README.md has no other number.
 codes=$(sed -nE 's/^code_of .* = ([0-9]+)$/\1/p' crates/call_status/specs/Codes.antt | sort -nu || true)
@@ -150,13 +156,14 @@ for target in "${found[@]}"; do
     grep -qE "^$target:" Makefile || fault "README.md tells 'make $target', which isn't a target"
 done
 
-# Each example has a graph and what the program is to print, and README.md tells of it. What the gate runs is one.
+# Each example has a graph and what the program is to print, and README.md or docs/HANDBOOK.md tells of it. What the gate
+# runs is one.
 find_each "examples" < <(ls examples)
 for example in "${found[@]}"; do
     for file in graph.json expected.txt; do
         [[ -f examples/$example/$file ]] || fault "examples/$example has no $file"
     done
-    has README.md "\`examples/$example\`" || fault "README.md doesn't name examples/$example"
+    cat README.md docs/HANDBOOK.md | grep -qF -- "\`examples/$example\`" || fault "neither README.md nor docs/HANDBOOK.md names examples/$example"
 done
 for pair in graph.json:data/graph.json a.log:data/a.log b.log:data/b.log c.log:data/c.log expected.txt:stdout; do
     cmp -s "examples/log-join/${pair%:*}" "crates/flow/${pair#*:}" || fault "crates/flow/${pair#*:} isn't the example's ${pair%:*}"

@@ -68,8 +68,21 @@ upgraded_prints_the_same() {
     fi
 }
 
+# A job as a script of the shell or of make, beside the example's graph: it prints the values of the report. It runs in a copy
+# of the folder, since it may write files.
+scripts_print_the_same() {
+    local folder=$1 script=$2
+    rm -rf "$seen/same"
+    cp -r "$folder" "$seen/same"
+    grep -vE '^(==|--) ' "$folder/expected.txt" >"$seen/wanted_out" || true
+    cases=$((cases + 1))
+    (cd "$seen/same" && if [[ $script == same.mk ]]; then make -s -j 2 -f same.mk; else bash same.sh; fi) >"$seen/out" 2>"$seen/notes" || true
+    cmp -s "$seen/out" "$seen/wanted_out" || fault "$folder/$script prints other values than the graph"
+}
+
 # Each example, called from its folder, with the options that options.txt has, a word a line. A file that isn't there
-# stands for no bytes, for code 0 or for no options. Its profile and its check are compared where it has a file of them.
+# stands for no bytes, for code 0 or for no options. Its profile and its check are compared where it has a file of them, and
+# a journal that it has is judged, and a script that does the same job prints the same values.
 for folder in examples/*/; do
     copy_or_empty "$folder/expected.txt" "$seen/wanted_out"
     copy_or_empty "$folder/expected.err" "$seen/wanted_notes"
@@ -93,7 +106,15 @@ for folder in examples/*/; do
         (cd "$folder" && call check graph.json)
         compare "the check of $folder" 0 "$folder/findings.txt" /dev/null
     fi
+    if [[ -f $folder/journal.txt ]]; then
+        echo complete >"$seen/judged_out"
+        (cd "$folder" && call judge graph.json journal.txt)
+        compare "the judgement of $folder" 0 "$seen/judged_out" /dev/null
+    fi
     upgraded_prints_the_same "$folder" "$code"
+    for script in same.sh same.mk; do
+        if [[ -f $folder/$script ]]; then scripts_print_the_same "$folder" "$script"; fi
+    done
 done
 
 # A call that is to put nothing on its output, and this line on its notes.
@@ -165,6 +186,18 @@ for word in ERROR upload '' nowhere; do
         done
     done
 done
+# Each command takes the options that docs/FORMATS.md lists for it, with each value of their ranges, and no other arguments
+# and values: what it doesn't take has code 2, and what it takes another one.
+mkdir "$seen/calls"
+cp examples/empty-graph/graph.json "$seen/calls/FILE"
+echo 'flow journal 2' >"$seen/calls/JOURNAL"
+while read -r verdict words; do
+    read -ra arguments <<<"${words//LAYERS/1}"
+    (cd "$seen/calls" && call "${arguments[@]}")
+    code=$(cat "$seen/code")
+    cases=$((cases + 1))
+    [[ ($verdict == takes && $code != 2) || ($verdict == refuses && $code == 2) ]] || fault "'flow $words' has code $code, and docs/FORMATS.md $verdict it"
+done < <(python3 -B tools/manual.py --calls)
 
 # A number of rounds, also none, and rounds until a word occurs.
 cd examples/count-lines

@@ -1,0 +1,135 @@
+"""What a graph file may hold: its operations with their fields, and what each field holds.
+
+docs/FORMATS.md says the same in words. The tests of these tools hold the operations against the program's definitions.
+"""
+import json
+import re
+from dataclasses import dataclass
+from typing import Callable
+
+NAME = re.compile(r"[A-Za-z0-9_.-]{1,64}")
+LONGEST_TEXT = 4_096
+MOST_LINES = 1_000_000_000
+
+MOST = {"tasks": 10_000, "edges": 100_000, "semaphores": 256, "modules": 64, "depth": 8, "texts": 1_024}
+MOST_PIPE_LINES = 64
+MOST_PIPES = 32
+
+CONDITIONS = ("back", "ifmore", "ifhas", "route")
+
+
+def shown(node):
+    """The value of a node as a message has it, cut short if it is long."""
+    if node.is_object or node.is_list:
+        return "an object" if node.is_object else "a list"
+    text = node.source or json.dumps(node.value, ensure_ascii=False)
+    return text if len(text) <= 40 else f"{text[:36]}...{text[-1]}"
+
+
+# ---- what a field holds: a function from its node to what is wrong with it, or None
+
+def whole(least, most):
+    def fault(node):
+        if not node.is_whole or not least <= node.value <= most:
+            return f"is {shown(node)}, and has to be a whole number from {least:,} to {most:,}"
+        return None
+    return fault
+
+
+def text(least):
+    def fault(node):
+        if not node.is_text:
+            return f"is {shown(node)}, and has to be a string"
+        if not least <= len(node.value.encode()) <= LONGEST_TEXT:
+            return f"has {len(node.value.encode()):,} bytes, and has to have {least} to {LONGEST_TEXT:,}"
+        return None
+    return fault
+
+
+def any_text(node):
+    return None if node.is_text else f"is {shown(node)}, and has to be a string"
+
+
+def true_or_false(node):
+    return None if isinstance(node.value, bool) else f"is {shown(node)}, and has to be true or false"
+
+
+def name(node):
+    if node.is_text and NAME.fullmatch(node.value):
+        return None
+    return f"is {shown(node)}, and has to be 1 to 64 letters without accents, digits, _, - and ."
+
+
+def list_of(item, least=0, most=None):
+    """A list of so many items, each as this function asks."""
+    def fault(node):
+        if not node.is_list:
+            return f"is {shown(node)}, and has to be a list"
+        count = len(node.value)
+        if count < least or (most is not None and count > most):
+            return f"has {count:,} items, and has to have {least} to {most:,}"
+        faults = (item(entry) for entry in node.value)
+        return next((f"has an item that {what}" for what in faults if what), None)
+    return fault
+
+
+def one_object(node):
+    return None if node.is_object else f"is {shown(node)}, and has to be an object"
+
+
+# ---- fields
+
+@dataclass(frozen=True)
+class Field:
+    """A field of an object: its name, what it holds, and whether it has to be there."""
+
+    name: str
+    fault: Callable
+    is_needed: bool = True
+
+
+WORD = Field("word", text(0))
+LINES = Field("n", whole(0, MOST_LINES))
+PART = Field("n", whole(1, MOST_LINES))
+
+# The operations on one text, which may stand in `each` and `pipes` too.
+TEXT_OPERATIONS = {
+    "pass": (), "keep": (WORD,), "without": (WORD,), "head": (LINES,), "tail": (LINES,), "skip": (LINES,),
+    "sort": (), "uniq": (), "count": (), "tally": (),
+}
+PIPE_OPERATIONS = {"number": (), "stamp": (), **TEXT_OPERATIONS}
+OPERATIONS = {
+    "input": (),
+    "read": (Field("text", text(1)),),
+    "match": (),
+    "back": (),
+    "ifmore": (LINES,),
+    "ifhas": (WORD,),
+    "route": (Field("words", list_of(text(0), most=256)),),
+    "spread": (PART, Field("each", one_object)),
+    "module": (Field("module", any_text),),
+    "pipe": (
+        Field("lines", whole(0, 2**32 - 1)),
+        Field("n", PART.fault, is_needed=False),
+        Field("pipes", list_of(one_object)),
+        Field("defer", list_of(one_object, most=256), is_needed=False),
+    ),
+    **TEXT_OPERATIONS,
+}
+
+NAMES = list_of(name)
+# What it holds is looked into by itself, since the other fields depend on it.
+OPERATION = Field("op", lambda node: None)
+TO = Field("to", NAMES, is_needed=False)
+# The lists by which a task names semaphores, for each version of graph files.
+UNIT_LISTS = {
+    1: (Field("holds", NAMES, is_needed=False),),
+    2: (Field("acquire", NAMES, is_needed=False), Field("release", NAMES, is_needed=False)),
+}
+SEMAPHORE = (Field("name", name), Field("max", whole(1, 1_000_000)))
+DEFER_ROW = (Field("token", whole(0, 65_535)), Field("to", list_of(whole(0, 1_000_000), 1, 8)))
+SERIAL = Field("serial", true_or_false)
+
+
+def field_names(fields):
+    return [field.name for field in fields]

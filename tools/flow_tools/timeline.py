@@ -1,0 +1,122 @@
+"""A run as a time line by the indexes of its journal, as SVG or as a trace for Chrome."""
+import html
+import json
+
+NOTE = "The axis counts entries of the journal: their order, and no seconds."
+COLOURS = ["#cfe0f5", "#d9ecd2", "#fbe7c2", "#e8d9ef", "#d3eceb", "#f6dcdc", "#e6e3cf", "#dcdfe6"]
+FAULT = "#e06c5f"
+
+LETTER = 6.3
+PADDING = 8
+LEFT, RIGHT, TOP = 74, 20, 56
+ROW, BAR = 30, 24
+NARROWEST, WIDEST = 12, 90
+WIDTH = 1200
+
+
+# ---- SVG
+
+def svg(plan, journal, title):
+    """The time line as a picture."""
+    names = [task.name for task in plan.top.tasks]
+    step = step_of(journal, names)
+    rows = journal.lanes() + (1 if journal.drops else 0)
+    width = max(LEFT + step * journal.length + RIGHT, LEFT + RIGHT + LETTER * max(len(NOTE), len(title)))
+    height = TOP + rows * ROW + 34
+    parts = [heading(title, width, height)]
+    parts += [lane_line(number, "drops" if number == journal.lanes() else f"lane {number + 1}", width) for number in range(rows)]
+    parts += axis(journal.length, step, TOP + rows * ROW)
+    parts += [bar(span, names[span.task], step, journal.length) for span in journal.spans]
+    parts += [drop_mark(drop, names[drop.task], step, journal.lanes()) for drop in journal.drops]
+    return "\n".join([*parts, "</svg>\n"])
+
+
+def step_of(journal, names):
+    """How wide an entry is: so that each name fits into its bar, if the picture stays narrow enough."""
+    wanted = [(len(names[span.task]) * LETTER + PADDING) / entries(span, journal.length) for span in journal.spans]
+    return min(max([NARROWEST, *wanted]), max(NARROWEST, min(WIDEST, (WIDTH - LEFT - RIGHT) / max(1, journal.length))))
+
+
+def entries(span, length):
+    """How many entries a span takes, from its start to its end; an open one takes all that follow."""
+    return (length if span.end is None else span.end + 1) - span.start
+
+
+def heading(title, width, height):
+    return (f'<svg xmlns="http://www.w3.org/2000/svg" width="{width:.0f}" height="{height:.0f}" '
+            'font-family="Helvetica,Arial,sans-serif" font-size="11" fill="#333">\n'
+            f'<rect width="100%" height="100%" fill="white"/>\n'
+            f'<text x="10" y="20" font-size="13" font-weight="bold">{html.escape(title)}</text>\n'
+            f'<text x="10" y="38">{NOTE}</text>')
+
+
+def lane_line(number, name, width):
+    y = TOP + number * ROW
+    return (f'<text x="10" y="{y + 16}" fill="#667">{name}</text>'
+            f'<line x1="{LEFT}" y1="{y + BAR + 3}" x2="{width - RIGHT:.1f}" y2="{y + BAR + 3}" stroke="#e3e6ea"/>')
+
+
+def axis(length, step, y):
+    """The numbers of entries, as many as fit."""
+    every = next(number for number in (1, 2, 5, 10, 20, 50, 100, 200, 500, 1_000, 10_000, 100_000, 10_000_000)
+                 if number * step >= LETTER * len(str(length)) + 10)
+    marks = []
+    for index in range(0, length, every):
+        x = LEFT + (index + 0.5) * step
+        marks.append(f'<line x1="{x:.1f}" y1="{y}" x2="{x:.1f}" y2="{y + 5}" stroke="#889"/>'
+                     f'<text x="{x:.1f}" y="{y + 18}" text-anchor="middle" fill="#667">{index}</text>')
+    return [f'<text x="10" y="{y + 18}" fill="#667">entry</text>', *marks]
+
+
+def bar(span, name, step, length):
+    x, y, width = LEFT + span.start * step + 1, TOP + span.lane * ROW, entries(span, length) * step - 2
+    colour = FAULT if span.fault else COLOURS[span.task % len(COLOURS)]
+    dashes = ' stroke-dasharray="4 3"' if span.end is None else ""
+    return (f'<g><title>{html.escape(told(span, name))}</title>'
+            f'<rect x="{x:.1f}" y="{y}" width="{width:.1f}" height="{BAR}" rx="3" fill="{colour}" stroke="#44546a"{dashes}/>'
+            f'<text x="{x + width / 2:.1f}" y="{y + 16}" text-anchor="middle">{html.escape(fitting(name, width))}</text></g>')
+
+
+def fitting(name, width):
+    """As much of a name as a bar of this width has room for."""
+    room = int((width - 4) / LETTER)
+    if len(name) <= room:
+        return name
+    return f"{name[:room - 1]}…" if room > 1 else ""
+
+
+def told(span, name):
+    """What the picture says of a span where the mouse rests on it."""
+    inputs = "" if span.inputs == "-" else f" with the values of entries {span.inputs}"
+    if span.end is None:
+        return f"{name}: starts at entry {span.start}{inputs}, and doesn't end"
+    how = f"faults ({span.fault})" if span.fault else "ends, its work was a run of its own," if span.is_inner else "ends"
+    return f"{name}: starts at entry {span.start}{inputs}, {how} at entry {span.end}"
+
+
+def drop_mark(drop, name, step, row):
+    x, y = LEFT + (drop.index + 0.5) * step, TOP + row * ROW
+    return (f'<g><title>{html.escape(name)} is dropped at entry {drop.index}: {drop.why}</title>'
+            f'<path d="M{x - 5:.1f} {y + 4} l10 0 l-5 9 z" fill="{FAULT}"/></g>')
+
+
+# ---- Chrome
+
+def chrome(plan, journal, title):
+    """The time line as a trace that chrome://tracing and Perfetto show: an entry of the journal counts as a microsecond."""
+    names = [task.name for task in plan.top.tasks]
+    lanes = [named("thread_name", lane, f"lane {lane + 1}") for lane in range(journal.lanes())]
+    spans = [slice_of(span, names[span.task], journal.length) for span in journal.spans]
+    drops = [{"name": f"{names[drop.task]} dropped", "ph": "i", "s": "p", "ts": drop.index, "pid": 0, "tid": 0,
+              "args": {"why": drop.why}} for drop in journal.drops]
+    events = [named("process_name", 0, f"{title} ({NOTE})"), *lanes, *spans, *drops]
+    return json.dumps({"traceEvents": events, "otherData": {"clock": NOTE}}, ensure_ascii=False, indent=1) + "\n"
+
+
+def named(what, lane, name):
+    return {"name": what, "ph": "M", "pid": 0, "tid": lane, "args": {"name": name}}
+
+
+def slice_of(span, name, length):
+    return {"name": name, "ph": "X", "ts": span.start, "dur": entries(span, length), "pid": 0, "tid": span.lane,
+            "args": {"what": told(span, name)}, **({"cname": "terrible"} if span.fault else {})}

@@ -1,0 +1,211 @@
+#!/usr/bin/env python3
+"""The tools that users get, on cases with answers: flow-lint, flow-dot, flow-trace and the completion.
+
+Prints nothing where each answers as it should; else the tests that fail, and ends with status 1.
+"""
+import importlib.machinery
+import importlib.util
+import io
+import json
+import pathlib
+import re
+import subprocess
+import tempfile
+import unittest
+import xml.etree.ElementTree
+
+import manual
+from flow_tools import dot, journals, timeline
+from flow_tools.graph_format import OPERATIONS, field_names
+from flow_tools.json_places import JsonError, Lines, decoded, parse
+from flow_tools.plans import UnreadableFile, load, plan_of
+from flow_tools.refusals import refusals
+
+TOP = pathlib.Path(__file__).resolve().parent.parent
+TABLE = TOP / "crates/test_graphs/stdin"
+FIELD_REFUSAL = re.compile(r"(?:bad field|no such name in|repeated name in) (.*?) (?:in|of) ((?:file|semaphore|task|module)[ \d\w]*)$")
+
+
+def tool(name):
+    """A tool as a module."""
+    loader = importlib.machinery.SourceFileLoader(name.replace("-", "_"), str(TOP / "tools" / name))
+    module = importlib.util.module_from_spec(importlib.util.spec_from_loader(loader.name, loader))
+    loader.exec_module(module)
+    return module
+
+
+def lint(text):
+    """What flow-lint says of a file, without the file's name."""
+    lines = Lines(text)
+    return [finding.line("", lines).removeprefix(":") for finding in LINT.findings(text)]
+
+
+LINT = tool("flow-lint")
+
+
+def graph(*tasks, **others):
+    return json.dumps({"tasks": list(tasks), **others})
+
+
+def task(name, op, *to, **fields):
+    return {"name": name, "op": op, **fields, **({"to": list(to)} if to else {})}
+
+
+READ = task("r", "read", "a", text="t")
+
+# A file, and a part of each line that flow-lint has for it, in the order of the file.
+ERRORS = [
+    ('{\n "tasks": [\n  {"name": "a", "op": "sort"}\n  {"name": "b", "op": "sort"} ]}', ['4:3: error: "{" where "," or "]" in a list']),
+    ('{"tasks": [1, ]}', ['1:13: error: a comma before "]"']),
+    ('{"tasks": []} x', ['1:15: error: "x" behind the end']),
+    ('{"tasks":\n [{"name": "a", "op": "suort"}]}', ['2:23: error: task "a": "suort" is no operation here; did you mean "sort"?']),
+    (graph(READ, task("a", "sort", n=3)), ['task "a": the field "n" is unknown for "sort", which has no field of its own']),
+    (graph(task("a", "head", N=3)), ['the field "n" is missing', 'the field "N" is unknown for "head", which has n; did you mean "n"?']),
+    (graph(task("a", "head", n=-1)), ['is -1, and has to be a whole number from 0 to 1,000,000,000']),
+    (graph(task("a", "read", "cuont", text="t"), task("count", "count")), ['"to" names "cuont", and no task of this graph has this name; did you mean "count"?']),
+    (graph(task("a", "input", acquire=["s"]), semaphores=[{"name": "s", "max": 1}]), ['"acquire" is unknown in version 1 of the format, which has holds']),
+    (graph(task("a", "module", module="m"), modules=[{"name": "n", "tasks": []}]), ['"module" names "m", and no module of the file']),
+    (graph(task("a", "input"), task("a", "input")), ['another task before it has the name "a"']),
+    (graph(task("a", "pass", "a")), ["none can start", "waits for itself: a -> a"]),
+]
+WARNINGS = [
+    (graph(READ, task("a", "sort")), []),
+    (graph(READ, task("a", "sort", "c"), task("b", "count", "c"), task("c", "pass")), ['task "b": no task leads to it, so "count" starts by itself']),
+    (graph(task("r", "read", "i", text="t"), task("i", "ifmore", "a", "b", "c", n=1), *(task(name, "pass") for name in "abc")),
+     ['task "i": "ifmore" never chooses "c": it chooses among the first 2 alone']),
+    (graph(task("r", "read", "o", text="t"), task("o", "route", "a", "b", words=["x"]), task("a", "pass"), task("b", "pass")),
+     ['"route" never chooses "b": it chooses the first alone']),
+    (graph(READ, task("a", "sort", "b"), task("b", "uniq", "a", "c"), task("c", "pass")),
+     ['task "a": waits in a circle without a condition: a -> b -> a', 'task "a": it waits for "b", which may end several times']),
+    (graph(task("r", "read", "i", text="t"), task("i", "ifhas", "y", "n", word="x"), task("y", "sort", "j"), task("n", "uniq", "j"), task("j", "pass")),
+     ['task "j": it waits for both "y" and "n", of which "i" lets only one start']),
+    (graph(task("r", "read", "i", text="t"), task("i", "ifhas", "y", "n", word="x"), task("y", "back", "j"), task("n", "back", "j"), task("j", "pass")), []),
+    (graph(task("r", "read", "b", text="t"), task("b", "skip", "m", "j", n=1), task("m", "ifmore", "b", "d", n=1), task("d", "pass"),
+           task("o", "read", "j", text="u"), task("j", "match")), ['task "j": it waits for "b", which may end several times, and for "o", which ends once']),
+    (graph(READ, task("a", "read", text="u")), ['"read" takes nothing of what "r" passes to it']),
+    (graph(READ, task("a", "sort"), semaphores=[{"name": "s", "max": 1}]), ['semaphore "s": no task takes a unit of it']),
+    (graph(READ, task("a", "sort"), modules=[{"name": "m", "tasks": []}]), ['module "m": no task runs it']),
+    ('{"tasks": [{"name": "a", "op": "input", "op": "input"}]}', ['the field "op" occurs twice here']),
+]
+
+
+class Lint(unittest.TestCase):
+    def test_cases(self):
+        for text, wanted in ERRORS + WARNINGS:
+            found = sorted(lint(text))
+            self.assertEqual(len(found), len(wanted), f"{text}\n{found}")
+            for part in wanted:
+                self.assertTrue(any(part in line for line in found), f"{part}\n{text}\n{found}")
+
+    def test_errors_and_warnings(self):
+        self.assertTrue(all("error: " in line for text, _ in ERRORS[:-1] for line in lint(text)))
+        self.assertTrue(all("warning: " in line for text, _ in WARNINGS for line in lint(text)))
+
+    def test_examples(self):
+        """Of each example it says what lint.txt says, or nothing."""
+        for folder in sorted((TOP / "examples").iterdir()):
+            wanted = folder / "lint.txt"
+            found = "".join(f"{line}\n" for line in lint((folder / "graph.json").read_text()))
+            self.assertEqual(found, wanted.read_text() if wanted.exists() else "", folder.name)
+
+    def test_refused_files(self):
+        """It has errors for the files that the program refuses and no others, and what the program names is among them."""
+        for line in TABLE.read_text().split("\n")[:-1]:
+            said, _, file = line.partition(" | ")
+            self.assertTrue(self.agrees(said, file), line)
+
+    def agrees(self, said, file):
+        try:
+            found = refusals(parse(decoded(file.encode())))
+        except JsonError:
+            return said == "not JSON"
+        if said.startswith("{"):
+            return not found
+        field = FIELD_REFUSAL.match(said)
+        return any((finding.field, finding.spot) == field.groups() for finding in found) if field else bool(found) and said != "not JSON"
+
+    def test_operations(self):
+        self.assertEqual({name: set(field_names(fields)) for name, fields in OPERATIONS.items()}, manual.defined_operations())
+
+    def test_unreadable(self):
+        for name in ("nowhere.json", "."):
+            done = subprocess.run([TOP / "tools/flow-lint", name], capture_output=True, text=True, cwd=TOP)
+            self.assertEqual((done.returncode, done.stdout, done.stderr.count("\n")), (2, "", 1))
+
+
+class Dot(unittest.TestCase):
+    def test_log_join(self):
+        text = dot.dot(load(TOP / "examples/log-join/graph.json"))
+        for part in ('t9 [shape=diamond', 't9 -> t8 [style=dashed, label=<more than 1>]', "t8 -> t9\n", "subgraph cluster_0", "m0_0 -> m0_1\n",
+                     "<i>holds io</i>", "io (2)", "module clean"):
+            self.assertIn(part, text)
+        self.assertEqual(text.count("style=dashed"), 2)
+
+    def test_marks(self):
+        """What means something to Graphviz is written so that it doesn't."""
+        text = dot.dot(plan_of(parse(graph(task("a", "keep", word='<"&>\n')))))
+        self.assertIn("&lt;\\&quot;&amp;&gt;\\n", text)
+
+    def test_examples(self):
+        for path in sorted((TOP / "examples").glob("*/graph.json")):
+            try:
+                text = dot.dot(load(path))
+            except UnreadableFile as error:
+                self.assertEqual(str(error).count("\n"), 0)
+                continue
+            self.assertEqual(text.count("{"), text.count("}"))
+
+
+class Trace(unittest.TestCase):
+    def journal(self, text, tasks):
+        with tempfile.NamedTemporaryFile("w") as file:
+            file.write(text)
+            file.flush()
+            return journals.read_journal(file.name, tasks)
+
+    def test_lanes(self):
+        journal = self.journal("flow journal 2\nstart 0 source -\nstart 1 source -\nend 0 0 plain\nstart 2 strong 2\nfault 1 long:9\ndrop 2 strong halted\n", 3)
+        self.assertEqual([(span.task, span.start, span.end, span.lane) for span in journal.spans], [(0, 0, 2, 0), (1, 1, 4, 1), (2, 3, None, 0)])
+        self.assertEqual([(drop.task, drop.index, drop.why) for drop in journal.drops], [(2, 5, "halted")])
+
+    def test_refused(self):
+        for text in ("", "flow journal 2", "flow journal 3\n", "flow journal 2\nstart 5 source -\n", "flow journal 2\nend 0 - plain\n",
+                     "flow journal 2\nstart 0 source\n", "## round 1\nflow journal 2\n"):
+            with self.assertRaises(UnreadableFile, msg=text):
+                self.journal(text, 2)
+
+    def test_pictures(self):
+        folder = TOP / "examples/errors-by-service"
+        plan = load(folder / "graph.json")
+        journal = journals.read_journal(folder / "journal.txt", len(plan.top.tasks))
+        self.assertEqual(journal.lanes(), 3)
+        root = xml.etree.ElementTree.parse(io.StringIO(timeline.svg(plan, journal, "<run>"))).getroot()
+        self.assertEqual(len(root.findall("{*}g")), 11)
+        self.assertIn("no seconds", "".join(root.itertext()))
+        events = json.loads(timeline.chrome(plan, journal, "run"))["traceEvents"]
+        self.assertEqual([event["name"] for event in events if event["ph"] == "X"][:2], ["web", "web-errors"])
+        self.assertEqual(next(event["dur"] for event in events if event["name"] == "web-errors"), 8)
+
+
+class Completion(unittest.TestCase):
+    CALL = 'source share/flow.bash; compopt() { :; }; COMP_WORDS=("$@"); COMP_CWORD=$(($# - 1)); _flow; echo "${COMPREPLY[*]}"'
+
+    def words(self, *words):
+        done = subprocess.run(["bash", "-c", self.CALL, "bash", *words], capture_output=True, text=True, cwd=TOP, check=True)
+        return done.stdout.split()
+
+    def test_words(self):
+        self.assertEqual(self.words("flow", ""), [command.name for command in manual.commands()])
+        self.assertEqual(self.words("flow", "pro"), ["profile"])
+        self.assertEqual(self.words("flow", "run", "x", "--wo"), ["--workers"])
+        self.assertEqual(self.words("flow", "check", "x", "--"), [])
+        self.assertEqual(self.words("flow", "run", "x", "--workers", "1"), ["1", "16"])
+        self.assertEqual(self.words("flow", "run", "x", "--until", ""), [])
+        self.assertIn("Makefile", self.words("flow", "run", ""))
+
+
+if __name__ == "__main__":
+    result = unittest.TextTestRunner(stream=(said := io.StringIO()), verbosity=0).run(unittest.defaultTestLoader.loadTestsFromModule(__import__("__main__")))
+    if not result.wasSuccessful():
+        print(said.getvalue())
+    raise SystemExit(0 if result.wasSuccessful() else 1)
