@@ -163,7 +163,7 @@ for example in "${found[@]}"; do
     for file in graph.json expected.txt; do
         [[ -f examples/$example/$file ]] || fault "examples/$example has no $file"
     done
-    cat README.md docs/HANDBOOK.md | grep -qF -- "\`examples/$example\`" || fault "neither README.md nor docs/HANDBOOK.md names examples/$example"
+    grep -qF -- "\`examples/$example\`" README.md docs/HANDBOOK.md || fault "neither README.md nor docs/HANDBOOK.md names examples/$example"
 done
 for pair in graph.json:data/graph.json a.log:data/a.log b.log:data/b.log c.log:data/c.log expected.txt:stdout; do
     cmp -s "examples/log-join/${pair%:*}" "crates/flow/${pair#*:}" || fault "crates/flow/${pair#*:} isn't the example's ${pair%:*}"

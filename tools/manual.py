@@ -1,104 +1,25 @@
 #!/usr/bin/env python3
 """Holds the manual page and the completion against docs/FORMATS.md, and this against the program's definitions.
 
-The tables of commands, options, fields, operations and exit codes in docs/FORMATS.md are where these stand. The regions
-of man/flow.1 and share/flow.bash between their lines `begin NAME` and `end NAME` are made from them.
+The tables of commands, options, fields, operations and exit codes in docs/FORMATS.md are where these stand. The
+regions of man/flow.1 and share/flow.bash between their lines `begin NAME` and `end NAME` are made from them.
 
     manual.py --check    prints what differs, and ends with status 1 if anything does
     manual.py --write    writes the regions
-    manual.py --calls    prints command lines, each with `takes` or `refuses` before it, as the program has to find them
+    manual.py --calls    prints command lines, each behind `takes` or `refuses`, as the program has to find it
 """
 import argparse
-import itertools
-import pathlib
 import re
 import sys
 import textwrap
-from dataclasses import dataclass
 
-TOP = pathlib.Path(__file__).resolve().parent.parent
-FORMATS = TOP / "docs/FORMATS.md"
+from flow_tools.findings import listed
+from format_tables import (CODE, FORMATS, NUMBERS, OPERATIONS, REQUESTS, TOP, commands, constants, defined_commands,
+                           defined_operations, documented_commands, documented_operations, operations, options, statuses,
+                           task_fields)
+
 PAGE = TOP / "man/flow.1"
 COMPLETION = TOP / "share/flow.bash"
-REQUESTS = TOP / "crates/command_line/specs/Requests.antt"
-NUMBERS = TOP / "crates/command_line/src/numbers.rt"
-OPERATIONS = TOP / "crates/graph_drafts/specs/OpRows.antt"
-
-CODE = re.compile(r"`([^`]+)`")
-
-
-# ---- the tables of docs/FORMATS.md
-
-@dataclass(frozen=True)
-class Command:
-    """A command: its name, the names of the arguments that it needs, its options, and what it does."""
-
-    name: str
-    arguments: tuple
-    options: tuple
-    text: str
-
-
-@dataclass(frozen=True)
-class Option:
-    """An option; `value` and `default` are empty if it has none, and `least` and `most` are its range if it is a number."""
-
-    name: str
-    value: str
-    least: int
-    most: int
-    default: str
-    text: str
-
-    @property
-    def is_number(self):
-        return self.most > 0
-
-
-def table(before, heading):
-    """The rows of the first table with such a first column behind this text, as lists of cells."""
-    text = FORMATS.read_text()
-    lines = text[text.index(before):].splitlines()
-    start = next(number for number, line in enumerate(lines) if line.startswith(f"| {heading} |"))
-    rows = itertools.takewhile(lambda line: line.startswith("| "), lines[start + 2:])
-    return [[cell.strip() for cell in row.strip("| ").split(" | ")] for row in rows]
-
-
-def commands():
-    return [command_of(cells) for cells in table("## The command line", "Command")]
-
-
-def command_of(cells):
-    words = CODE.search(cells[0])[1]
-    name, *arguments = re.sub(r"\[.*?\]", "", words).split()[1:]
-    return Command(name, tuple(arguments), tuple(re.findall(r"\[--(\w+)", words)), cells[1])
-
-
-def options():
-    return [option_of(cells) for cells in table("## The command line", "Option")]
-
-
-def option_of(cells):
-    words = CODE.search(cells[0])[1].removeprefix("--").split()
-    value = words[1] if len(words) > 1 else ""
-    bounds = re.fullmatch(r"([\d,]+) to ([\d,]+)", cells[1])
-    least, most = (int(bound.replace(",", "")) for bound in bounds.groups()) if bounds else (0, 0)
-    return Option(words[0], value, least, most, cells[2] if bounds else "", cells[3])
-
-
-def task_fields():
-    """The fields of tasks: name, and what it holds."""
-    return [(CODE.search(cells[0])[1], cells[1]) for cells in table("\nA task is an object", "Field")]
-
-
-def operations():
-    """The rows of operations: their names, and their value."""
-    return [(CODE.findall(cells[0]), cells[1]) for cells in table("\n## Operations", "`op`")]
-
-
-def statuses():
-    """The exit codes: status, code, line, and when."""
-    return table("\n## Exit codes", "Status")
 
 
 # ---- mdoc
@@ -121,12 +42,6 @@ def item(head, text):
 def tagged(items, width):
     """A list of items, behind heads of this width."""
     return [f".Bl -tag -width {width}", *(line for lines in items for line in lines), ".El"]
-
-
-def listed(names):
-    """Names in code letters as a part of a sentence."""
-    codes = [f"`{name}`" for name in names]
-    return codes[0] if len(codes) == 1 else f"{', '.join(codes[:-1])} and {codes[-1]}"
 
 
 def sentence(text):
@@ -159,9 +74,9 @@ def option_head(option):
 
 
 def option_text(option):
-    users = listed(command.name for command in commands() if option.name in command.options)
-    text = f"For {users}: {option.text}."
-    return f"{text} A number from {option.least:,} to {option.most:,}, and {option.default} if it isn't given." if option.is_number else text
+    users = listed(f"`{command.name}`" for command in commands() if option.name in command.options)
+    numbers = f" A number from {option.least:,} to {option.most:,}, and {option.default} if it isn't given."
+    return f"For {users}: {option.text}.{numbers if option.is_number else ''}"
 
 
 def field_lines():
@@ -188,17 +103,18 @@ def status_text(name, line, when):
 # ---- the completion
 
 def completion_lines():
-    lines = [f"_flow_commands='{' '.join(command.name for command in commands())}'", "_flow_options() {", "    case $1 in"]
-    lines += [f"        {command.name}) echo '{' '.join('--' + name for name in command.options)}' ;;" for command in commands()
-              if command.options]
-    return [*lines, "    esac", "}"]
+    names = " ".join(command.name for command in commands())
+    cases = [f"        {command.name}) echo '{' '.join(f'--{name}' for name in command.options)}' ;;"
+             for command in commands() if command.options]
+    return [f"_flow_commands='{names}'", "_flow_options() {", "    case $1 in", *cases, "    esac", "}"]
 
 
 # ---- regions
 
+# For each file how its comments begin, and what makes the lines of each region.
 REGIONS = {
-    PAGE: (".\\\" ", {"synopsis": synopsis_lines, "commands": command_lines, "options": option_lines, "fields": field_lines,
-                      "operations": operation_lines, "codes": code_lines}),
+    PAGE: (".\\\" ", {"synopsis": synopsis_lines, "commands": command_lines, "options": option_lines,
+                      "fields": field_lines, "operations": operation_lines, "codes": code_lines}),
     COMPLETION: ("# ", {"options": completion_lines}),
 }
 
@@ -214,66 +130,25 @@ def written(path):
     return text
 
 
-# ---- the program's definitions
-
-def defined_commands():
-    """The commands of the program: name, arguments, and options with those that have no value."""
-    rows = dict(re.findall(r"^(\w+)_app(?: name)? = (.*)$", REQUESTS.read_text(), re.M))
-    shared = rules_in(rows.pop("runs"))
-    found = {}
-    for row in rows.values():
-        base = re.search(r"\(?(runs_app|command_named) \(codes \"(\w+)\"\)", row)
-        found[base[2]] = (shared if base[1] == "runs_app" else []) + rules_in(row)
-    return found
-
-
-def rules_in(row):
-    return re.findall(r"\((required|option|flag) \(codes \"(\w+)\"\)\)", row)
-
-
-def documented_commands():
-    values = {option.name: option.value for option in options()}
-    return {command.name: [("required", argument.lower()) for argument in command.arguments]
-            + [("option" if values.get(name, "?") else "flag", name) for name in command.options] for command in commands()}
-
-
-def constants():
-    return {name: int(number.replace("_", "")) for name, number in re.findall(r"const (\w+): u\d+ = ([\d_]+);", NUMBERS.read_text())}
-
-
-def defined_operations():
-    """The operations of the program, with their own fields."""
-    text = OPERATIONS.read_text()
-    found = {name: set() for name in re.findall(r"bare \(codes \"(\w+)\"\)", text)}
-    found |= {name: {field} for name, field in re.findall(r"single \(codes \"(\w+)\"\) \(codes \"(\w+)\"\)", text)}
-    for name, fields in re.findall(r"record \{ name = codes \"(\w+)\"; fields = ([^;]*);", text):
-        found[name] = set(re.findall(r"codes \"(\w+)\"", fields))
-    return {name: fields for name, fields in found.items() if name not in ("number", "stamp")}
-
-
-def documented_operations():
-    found = {name: set() for names, _ in operations() for name in names}
-    for field, text in task_fields():
-        for users in re.findall(r"[Ff]or ((?:`\w+`(?:, | and )?)+)", text):
-            for user in CODE.findall(users):
-                found.setdefault(user, set()).add(field)
-    return found
-
-
 def differences():
     """What doesn't agree, a sentence each."""
     for path in REGIONS:
         if path.read_text() != written(path):
-            yield f"{path.relative_to(TOP)} isn't what tools/manual.py --write makes of docs/FORMATS.md"
+            yield f"{called(path)} isn't what tools/manual.py --write makes of {called(FORMATS)}"
     if not defined_commands() or defined_commands() != documented_commands():
-        yield f"docs/FORMATS.md has other commands than {REQUESTS.relative_to(TOP)}"
+        yield f"{called(FORMATS)} has other commands than {called(REQUESTS)}"
     if not defined_operations() or defined_operations() != documented_operations():
-        yield f"docs/FORMATS.md has other operations or fields than {OPERATIONS.relative_to(TOP)}"
+        yield f"{called(FORMATS)} has other operations or fields than {called(OPERATIONS)}"
     numbers = constants()
     for option in options():
-        wanted = (numbers.get(f"GREATEST_{option.name.upper()}"), numbers.get(f"DEFAULT_{option.name.upper()}", 1))
+        name = option.name.upper()
+        wanted = (numbers.get(f"GREATEST_{name}"), numbers.get(f"DEFAULT_{name}", 1))
         if option.is_number and (option.most, int(option.default.replace(",", ""))) != wanted:
-            yield f"docs/FORMATS.md has another range of --{option.name} than {NUMBERS.relative_to(TOP)}"
+            yield f"{called(FORMATS)} has another range of --{option.name} than {called(NUMBERS)}"
+
+
+def called(path):
+    return path.relative_to(TOP)
 
 
 # ---- calls

@@ -1,9 +1,9 @@
 #!/usr/bin/env python3
-"""Holds share/flow-graph.schema.json against the graph files of the examples and of the tests, by python3-jsonschema.
+"""Holds share/flow-graph.schema.json against graph files of the examples and the tests, by python3-jsonschema.
 
-Each file that the program takes has to be taken. Each that it refuses for its shape has to be refused: for a field, or for
-a pipeline. Names, circles of modules and most limits are beyond a schema, and so are the few shapes that BEYOND names:
-such files have to be taken, unless they have another fault besides, so that the list stays true. Without
+Each file that the program takes has to be taken. Each that it refuses for its shape has to be refused: for a field, or
+for a pipeline. Names, circles of modules and most limits are beyond a schema, and so are the few shapes that BEYOND
+names: such files have to be taken, unless they have another fault besides, so that the list stays true. Without
 python3-jsonschema it says so, and ends with status 0.
 """
 import json
@@ -22,7 +22,8 @@ TABLE = TOP / "crates/test_graphs/stdin"
 NAMES_AND_CIRCLES = ("no such name", "repeated name in name", "module cycle", "too many")
 # Refusals for a field that a schema can't express: a test on the file's text and the parsed file, and what it is.
 BEYOND = {
-    "a whole number with a fraction, an exponent or a sign": lambda file: any(sign in file for sign in ("1.0", "2.0", "1e0", "-0")),
+    "a whole number with a fraction, an exponent or a sign":
+        lambda file: any(sign in file for sign in ("1.0", "2.0", "1e0", "-0")),
     "two rows of defer for one token": lambda file: file.count('"token":1,') > 1,
     "a string by its bytes": lambda file: not file.isascii(),
 }
@@ -60,7 +61,8 @@ def at_limits():
     for what, most, tasks in pieces:
         yield f"{most} {what}", "", '{"tasks":[%s]}' % tasks(most)
         yield f"{most + 1} {what}", "bad field", '{"tasks":[%s]}' % tasks(most + 1)
-    yield "a word of 4,098 bytes and 2,049 letters", "bad field", '{"tasks":[%s]}' % (task % ("keep", '"word":"%s"' % ("é" * 2049)))
+    letters = task % ("keep", '"word":"%s"' % ("é" * 2049))
+    yield "a word of 4,098 bytes and 2,049 letters", "bad field", '{"tasks":[%s]}' % letters
 
 
 def is_shape(said):
@@ -93,7 +95,8 @@ def main():
         is_right, is_beyond = verdict(is_taken, said, file)
         count, beyond, faults = count + 1, beyond + is_beyond, faults + (not is_right)
         if not is_right:
-            print(f"schema: {called} is {'taken' if is_taken else 'refused'}; the program: {said or 'taken'}", file=sys.stderr)
+            answer = "taken" if is_taken else "refused"
+            print(f"schema: {called} is {answer}; the program: {said or 'taken'}", file=sys.stderr)
     print(f"schema: {count} files, of which {beyond} are refused by the program alone; {faults} with a difference")
     sys.exit(1 if faults else 0)
 

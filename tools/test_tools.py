@@ -14,7 +14,7 @@ import tempfile
 import unittest
 import xml.etree.ElementTree
 
-import manual
+import format_tables
 from flow_tools import dot, journals, timeline
 from flow_tools.graph_format import OPERATIONS, field_names
 from flow_tools.json_places import JsonError, Lines, decoded, parse
@@ -125,7 +125,7 @@ class Lint(unittest.TestCase):
         return any((finding.field, finding.spot) == field.groups() for finding in found) if field else bool(found) and said != "not JSON"
 
     def test_operations(self):
-        self.assertEqual({name: set(field_names(fields)) for name, fields in OPERATIONS.items()}, manual.defined_operations())
+        self.assertEqual({name: set(field_names(fields)) for name, fields in OPERATIONS.items()}, format_tables.defined_operations())
 
     def test_unreadable(self):
         for name in ("nowhere.json", "."):
@@ -195,7 +195,7 @@ class Completion(unittest.TestCase):
         return done.stdout.split()
 
     def test_words(self):
-        self.assertEqual(self.words("flow", ""), [command.name for command in manual.commands()])
+        self.assertEqual(self.words("flow", ""), [command.name for command in format_tables.commands()])
         self.assertEqual(self.words("flow", "pro"), ["profile"])
         self.assertEqual(self.words("flow", "run", "x", "--wo"), ["--workers"])
         self.assertEqual(self.words("flow", "check", "x", "--"), [])

@@ -92,8 +92,9 @@ def choice(task, place):
     if task.op == "route":
         words = task.field("words")
         return quoted(words[place].value) if place < len(words) else "never"
-    names = {"back": ["back"], "ifmore": [f"more than {task.field('n')}", "else"], "ifhas": [quoted(task.field("word") or ""), "else"]}
-    return names[task.op][place] if place < len(names[task.op]) else "never"
+    first = {"back": "back", "ifmore": f"more than {task.field('n')}", "ifhas": quoted(task.field("word") or "")}
+    names = [first[task.op]] if task.op == "back" else [first[task.op], "else"]
+    return names[place] if place < len(names) else "never"
 
 
 def edge_line(graph, edge, prefix):
@@ -118,7 +119,8 @@ def graph_lines(graph, prefix):
 def module_lines(module, number):
     """A module as a cluster."""
     title = "<br/>".join(html.escape(row) for row in (f"module {module.name}", semaphore_line(module)) if row)
-    head = f'    subgraph cluster_{number} {{ label=<{title}>; labelloc=t; style="rounded,dashed"; color="#8064a2"; fontsize=11'
+    look = 'labelloc=t; fontsize=11; style="rounded,dashed"; color="#8064a2"'
+    head = f"    subgraph cluster_{number} {{ label=<{title}>; {look}"
     return [head, *graph_lines(module, f"m{number}_"), "    }"]
 
 

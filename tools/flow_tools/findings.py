@@ -7,8 +7,8 @@ from dataclasses import dataclass
 class Finding:
     """Something that is wrong at an offset of the file.
 
-    `where` names the task, semaphore or module for a reader. `field` and `spot` are the field and the place in the file by
-    which the program's own message goes, in its words.
+    `where` names the task, semaphore or module for a reader. `field` and `spot` are the field and the place in the file
+    by which the program's own message goes, in its words.
     """
 
     offset: int

@@ -7,6 +7,7 @@ import re
 from dataclasses import dataclass
 from typing import Callable
 
+LONGEST_FILE = 4_194_304
 NAME = re.compile(r"[A-Za-z0-9_.-]{1,64}")
 LONGEST_TEXT = 4_096
 MOST_LINES = 1_000_000_000

@@ -1,4 +1,5 @@
 """Journals as text: what stands in them, and which starts are open at the same time."""
+import heapq
 import re
 from dataclasses import dataclass
 
@@ -58,7 +59,7 @@ def read_journal(path, tasks):
     spans, drops = {}, []
     for index, line in enumerate(lines[1:]):
         if not add_entry(index, line, spans, drops, tasks):
-            raise UnreadableFile(f"{path}:{index + 2}: this line is no entry that a journal of this graph may have here")
+            raise UnreadableFile(f"{path}:{index + 2}: no entry that a journal of this graph may have here")
     journal = Journal(list(spans.values()), drops, len(lines) - 1)
     give_lanes(journal)
     return journal
@@ -88,11 +89,12 @@ def add_entry(index, line, spans, drops, tasks):
 
 def give_lanes(journal):
     """Gives each start the first lane that no open start has."""
-    free_from = []
+    open_lanes, free_lanes, lanes = [], [], 0
     for span in journal.spans:
-        end = journal.length if span.end is None else span.end
-        lane = next((number for number, free in enumerate(free_from) if free < span.start), len(free_from))
-        if lane == len(free_from):
-            free_from.append(end)
-        free_from[lane] = end
-        span.lane = lane
+        while open_lanes and open_lanes[0][0] < span.start:
+            heapq.heappush(free_lanes, heapq.heappop(open_lanes)[1])
+        if not free_lanes:
+            heapq.heappush(free_lanes, lanes)
+            lanes += 1
+        span.lane = heapq.heappop(free_lanes)
+        heapq.heappush(open_lanes, (journal.length if span.end is None else span.end, span.lane))

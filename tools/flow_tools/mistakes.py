@@ -10,7 +10,7 @@ def quoted(name):
 
 
 class GraphView:
-    """A graph with what its mistakes are told by: its edges by their ends, and which tasks may end several times."""
+    """A graph with what shows its mistakes: its edges by their ends, and which tasks may end several times."""
 
     def __init__(self, graph):
         self.graph = graph
@@ -56,7 +56,7 @@ def mistakes(plan):
     """The warnings on all graphs of a file, and on what nobody uses."""
     for graph in plan.graphs():
         view = GraphView(graph)
-        for kind in (forgotten_starts, dropped_texts, unchosen_edges, waiting_circles, both_branches, uneven_joins):
+        for kind in KINDS:
             yield from kind(view)
         yield from semaphore_mistakes(graph)
     yield from unused_modules(plan)
@@ -80,13 +80,21 @@ def choices(task):
     return {"back": 1, "ifmore": 2, "ifhas": 2}.get(task.op) or len(task.field("words"))
 
 
+def lone_matches(view):
+    for number, task in enumerate(view.tasks):
+        strong = [edge for edge in view.incoming[number] if not view.is_weak(edge)]
+        if task.op == "match" and view.incoming[number] and len(strong) < 2:
+            yield view.finding(number, "no second predecessor brings lines to match with, so its value is always empty")
+
+
 def unchosen_edges(view):
     for edge in view.edges:
         task = view.tasks[edge.source]
         if task.is_condition and edge.place >= choices(task):
             count = choices(task)
             which = "none" if count == 0 else "the first alone" if count == 1 else f"among the first {count} alone"
-            text = f'"{task.op}" never chooses {quoted(view.tasks[edge.target].name)}: it chooses {which}'
+            name = quoted(view.tasks[edge.target].name)
+            text = f'"{task.op}" never chooses {name}: it chooses {which}'
             yield view.finding(edge.source, text, "to", edge.place)
 
 
@@ -107,8 +115,8 @@ def waiting_circles(view):
 def branches_above(view):
     """For each task that can be reached, the branches that every way to it takes: from condition to edge.
 
-    Each edge by which one of `ifmore` and `ifhas` chooses is a node between its ends, and a root leads to all tasks that
-    start by themselves. What all ways to a task pass are its dominators.
+    Each edge by which one of `ifmore` and `ifhas` chooses is a node between its ends, and a root leads to all tasks
+    that start by themselves. What all ways to a task pass are its dominators.
     """
     count = len(view.tasks)
     branches = [edge for edge in view.edges if view.tasks[edge.source].op in ("ifmore", "ifhas")]
@@ -142,12 +150,15 @@ def both_branches(view):
         for before in view.strong_predecessors(join):
             for condition, edge in branches_of(before).items():
                 taken.setdefault(condition, {}).setdefault(edge.place, before)
-        for condition, by_place in taken.items():
-            if len(by_place) > 1 and condition not in view.several:
-                text = f"it waits for both {view.names(by_place.values())}, of which " \
-                       f"{quoted(view.tasks[condition].name)} lets only one start; end each branch with a \"back\" to it"
-                yield view.finding(join, text)
-                break
+        apart = [condition for condition, places in taken.items() if len(places) > 1 and condition not in view.several]
+        if apart:
+            yield view.finding(join, both_text(view, apart[0], taken[apart[0]].values()))
+
+
+def both_text(view, condition, branches):
+    chooser = quoted(view.tasks[condition].name)
+    return (f"it waits for both {view.names(branches)}, of which {chooser} lets only one start; "
+            'end each branch with a "back" to it')
 
 
 def uneven_joins(view):
@@ -157,9 +168,12 @@ def uneven_joins(view):
         once = [task for task in before if task not in view.several]
         if often and once:
             ends = "ends once" if len(once) == 1 else "end once each"
-            text = f"it waits for {view.names(often)}, which may end several times, and for {view.names(once)}, which {ends}: " \
-                   "it takes the first value of each, and no later one"
+            text = f"it waits for {view.names(often)}, which may end several times, and for {view.names(once)}, " \
+                   f"which {ends}: it takes the first value of each, and no later one"
             yield view.finding(join, text)
+
+
+KINDS = (forgotten_starts, dropped_texts, lone_matches, unchosen_edges, waiting_circles, both_branches, uneven_joins)
 
 
 # ---- semaphores and modules
@@ -173,7 +187,8 @@ def semaphore_mistakes(graph):
         if semaphore.name not in taken | given:
             yield Finding(semaphore.node.offset, where, "no task takes a unit of it", is_error=False)
         elif semaphore.name not in given:
-            yield Finding(semaphore.node.offset, where, "tasks take units of it, and none gives one back", is_error=False)
+            text = "tasks take units of it, and none gives one back"
+            yield Finding(semaphore.node.offset, where, text, is_error=False)
 
 
 def unused_modules(plan):

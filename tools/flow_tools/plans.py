@@ -89,7 +89,8 @@ def load(path):
     try:
         root = parse(text)
     except JsonError as error:
-        raise UnreadableFile(f"{path}:{'%d:%d' % lines.place(error.offset)}: {error.why}") from None
+        line, column = lines.place(error.offset)
+        raise UnreadableFile(f"{path}:{line}:{column}: {error.why}") from None
     found = refusals(root)
     if found:
         raise UnreadableFile(min(found, key=lambda finding: finding.offset).line(path, lines))
@@ -112,10 +113,14 @@ def names_in(node, field):
 
 
 def graph_of(node, version):
-    semaphores = [Semaphore(item.get("name").value, item.get("max").value, item) for item in list_in(node, "semaphores")]
+    semaphores = [semaphore_of(item) for item in list_in(node, "semaphores")]
     tasks = [task_of(item, version) for item in list_in(node, "tasks")]
     name = node.get("name")
     return Graph(name.value if name else "", semaphores, tasks, version, node)
+
+
+def semaphore_of(node):
+    return Semaphore(node.get("name").value, node.get("max").value, node)
 
 
 def task_of(node, version):

@@ -7,8 +7,9 @@ from collections import Counter
 from dataclasses import dataclass
 
 from .findings import Finding, listed, nearest
-from .graph_format import (DEFER_ROW, MOST, MOST_PIPE_LINES, MOST_PIPES, OPERATION, OPERATIONS, PIPE_OPERATIONS, SEMAPHORE,
-                           SERIAL, TEXT_OPERATIONS, TO, UNIT_LISTS, Field, field_names, list_of, name, one_object, shown)
+from .graph_format import (DEFER_ROW, LONGEST_FILE, MOST, MOST_PIPE_LINES, MOST_PIPES, OPERATION, OPERATIONS,
+                           PIPE_OPERATIONS, SEMAPHORE, SERIAL, TEXT_OPERATIONS, TO, UNIT_LISTS, Field, field_names,
+                           list_of, name, one_object, shown)
 from .json_places import Node
 
 
@@ -268,7 +269,7 @@ def same_names(spots):
 
 def uses_of(graphs):
     """For each module the modules that its tasks run, by their names."""
-    return {name_of(graph.spot): [module_used(task).value for task in graph.tasks if module_used(task)] for graph in graphs}
+    return {name_of(graph.spot): [used.value for used in map(module_used, graph.tasks) if used] for graph in graphs}
 
 
 def circle_findings(graphs):
@@ -296,6 +297,13 @@ def depth_of(graphs):
         return depths[graph]
 
     return below(None)
+
+
+def size_findings(text):
+    """A file that is longer than what the program reads."""
+    size = len(text.encode())
+    if size > LONGEST_FILE:
+        yield Finding(0, "", f"the file has {size:,} bytes, and may have {LONGEST_FILE:,}")
 
 
 def limit_findings(root, graphs, has_circle):

@@ -33,10 +33,10 @@ def enter(node, index, low, open_nodes, is_open):
 
 
 def close(node, open_nodes, is_open):
-    """The component whose first node this is."""
-    start = open_nodes.index(node)
-    component = open_nodes[start:]
-    del open_nodes[start:]
+    """The component whose first node this is: the last open ones, up to it."""
+    component = []
+    while not component or component[-1] != node:
+        component.append(open_nodes.pop())
     is_open.difference_update(component)
     return sorted(component)
 
@@ -67,7 +67,10 @@ def path_to(node, before, start):
 
 
 def dominators(successors, root):
-    """For each node that a path from the root reaches, the last other node that all these paths pass (Cooper and others)."""
+    """For each node that paths from the root reach, the last other node that all of them pass.
+
+    By the algorithm of Cooper, Harvey and Kennedy.
+    """
     order = postorder(successors, root)
     rank = {node: place for place, node in enumerate(order)}
     predecessors = {node: [] for node in order}

@@ -24,17 +24,22 @@ def svg(plan, journal, title):
     width = max(LEFT + step * journal.length + RIGHT, LEFT + RIGHT + LETTER * max(len(NOTE), len(title)))
     height = TOP + rows * ROW + 34
     parts = [heading(title, width, height)]
-    parts += [lane_line(number, "drops" if number == journal.lanes() else f"lane {number + 1}", width) for number in range(rows)]
+    parts += [lane_line(number, lane_name(number, journal), width) for number in range(rows)]
     parts += axis(journal.length, step, TOP + rows * ROW)
     parts += [bar(span, names[span.task], step, journal.length) for span in journal.spans]
     parts += [drop_mark(drop, names[drop.task], step, journal.lanes()) for drop in journal.drops]
     return "\n".join([*parts, "</svg>\n"])
 
 
+def lane_name(number, journal):
+    return "drops" if number == journal.lanes() else f"lane {number + 1}"
+
+
 def step_of(journal, names):
     """How wide an entry is: so that each name fits into its bar, if the picture stays narrow enough."""
     wanted = [(len(names[span.task]) * LETTER + PADDING) / entries(span, journal.length) for span in journal.spans]
-    return min(max([NARROWEST, *wanted]), max(NARROWEST, min(WIDEST, (WIDTH - LEFT - RIGHT) / max(1, journal.length))))
+    room = (WIDTH - LEFT - RIGHT) / max(1, journal.length)
+    return min(max([NARROWEST, *wanted]), max(NARROWEST, min(WIDEST, room)))
 
 
 def entries(span, length):
@@ -58,23 +63,25 @@ def lane_line(number, name, width):
 
 def axis(length, step, y):
     """The numbers of entries, as many as fit."""
-    every = next(number for number in (1, 2, 5, 10, 20, 50, 100, 200, 500, 1_000, 10_000, 100_000, 10_000_000)
-                 if number * step >= LETTER * len(str(length)) + 10)
-    marks = []
-    for index in range(0, length, every):
-        x = LEFT + (index + 0.5) * step
-        marks.append(f'<line x1="{x:.1f}" y1="{y}" x2="{x:.1f}" y2="{y + 5}" stroke="#889"/>'
-                     f'<text x="{x:.1f}" y="{y + 18}" text-anchor="middle" fill="#667">{index}</text>')
+    room = LETTER * len(str(length)) + 10
+    every = next(number for number in (1, 2, 5, 10, 20, 50, 100, 200, 500, 1_000) if number * step >= room)
+    marks = [mark(index, LEFT + (index + 0.5) * step, y) for index in range(0, length, every)]
     return [f'<text x="10" y="{y + 18}" fill="#667">entry</text>', *marks]
+
+
+def mark(index, x, y):
+    return (f'<line x1="{x:.1f}" y1="{y}" x2="{x:.1f}" y2="{y + 5}" stroke="#889"/>'
+            f'<text x="{x:.1f}" y="{y + 18}" text-anchor="middle" fill="#667">{index}</text>')
 
 
 def bar(span, name, step, length):
     x, y, width = LEFT + span.start * step + 1, TOP + span.lane * ROW, entries(span, length) * step - 2
     colour = FAULT if span.fault else COLOURS[span.task % len(COLOURS)]
     dashes = ' stroke-dasharray="4 3"' if span.end is None else ""
-    return (f'<g><title>{html.escape(told(span, name))}</title>'
-            f'<rect x="{x:.1f}" y="{y}" width="{width:.1f}" height="{BAR}" rx="3" fill="{colour}" stroke="#44546a"{dashes}/>'
-            f'<text x="{x + width / 2:.1f}" y="{y + 16}" text-anchor="middle">{html.escape(fitting(name, width))}</text></g>')
+    shape = f'x="{x:.1f}" y="{y}" width="{width:.1f}" height="{BAR}" rx="3" fill="{colour}" stroke="#44546a"{dashes}'
+    middle = f'x="{x + width / 2:.1f}" y="{y + 16}" text-anchor="middle"'
+    return (f"<g><title>{html.escape(told(span, name))}</title><rect {shape}/>"
+            f"<text {middle}>{html.escape(fitting(name, width))}</text></g>")
 
 
 def fitting(name, width):
@@ -90,7 +97,8 @@ def told(span, name):
     inputs = "" if span.inputs == "-" else f" with the values of entries {span.inputs}"
     if span.end is None:
         return f"{name}: starts at entry {span.start}{inputs}, and doesn't end"
-    how = f"faults ({span.fault})" if span.fault else "ends, its work was a run of its own," if span.is_inner else "ends"
+    done = "ends, its work was a run of its own," if span.is_inner else "ends"
+    how = f"faults ({span.fault})" if span.fault else done
     return f"{name}: starts at entry {span.start}{inputs}, {how} at entry {span.end}"
 
 
@@ -103,7 +111,7 @@ def drop_mark(drop, name, step, row):
 # ---- Chrome
 
 def chrome(plan, journal, title):
-    """The time line as a trace that chrome://tracing and Perfetto show: an entry of the journal counts as a microsecond."""
+    """The time line as a trace for chrome://tracing and Perfetto: an entry of the journal counts as a microsecond."""
     names = [task.name for task in plan.top.tasks]
     lanes = [named("thread_name", lane, f"lane {lane + 1}") for lane in range(journal.lanes())]
     spans = [slice_of(span, names[span.task], journal.length) for span in journal.spans]
