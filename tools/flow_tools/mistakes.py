@@ -1,4 +1,4 @@
-"""What the program runs to its end without an error, and is most likely a mistake all the same."""
+"""What the program runs to its end without an error, and is probably a mistake all the same."""
 import json
 
 from .findings import Finding, listed

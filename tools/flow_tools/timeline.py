@@ -10,7 +10,7 @@ LETTER = 6.3
 PADDING = 8
 LEFT, RIGHT, TOP = 74, 20, 56
 ROW, BAR = 30, 24
-NARROWEST, WIDEST = 12, 90
+NARROWEST, WIDEST = 24, 90
 WIDTH = 1200
 
 
@@ -21,14 +21,14 @@ def svg(plan, journal, title):
     names = [task.name for task in plan.top.tasks]
     step = step_of(journal, names)
     rows = journal.lanes() + (1 if journal.drops else 0)
-    width = max(LEFT + step * journal.length + RIGHT, LEFT + RIGHT + LETTER * max(len(NOTE), len(title)))
+    marks, marks_end = drop_marks(journal, names, step)
+    width = max(LEFT + step * journal.length, marks_end, LEFT + LETTER * max(len(NOTE), len(title))) + RIGHT
     height = TOP + rows * ROW + 34
     parts = [heading(title, width, height)]
     parts += [lane_line(number, lane_name(number, journal), width) for number in range(rows)]
     parts += axis(journal.length, step, TOP + rows * ROW)
     parts += [bar(span, names[span.task], step, journal.length) for span in journal.spans]
-    parts += [drop_mark(drop, names[drop.task], step, journal.lanes()) for drop in journal.drops]
-    return "\n".join([*parts, "</svg>\n"])
+    return "\n".join([*parts, *marks, "</svg>\n"])
 
 
 def lane_name(number, journal):
@@ -102,10 +102,23 @@ def told(span, name):
     return f"{name}: starts at entry {span.start}{inputs}, {how} at entry {span.end}"
 
 
-def drop_mark(drop, name, step, row):
-    x, y = LEFT + (drop.index + 0.5) * step, TOP + row * ROW
-    return (f'<g><title>{html.escape(name)} is dropped at entry {drop.index}: {drop.why}</title>'
-            f'<path d="M{x - 5:.1f} {y + 4} l10 0 l-5 9 z" fill="{FAULT}"/></g>')
+def drop_marks(journal, names, step):
+    """A mark for each drop, with its task's name where there is room, and where the last one ends."""
+    marks, end = [], 0
+    following = [drop.index for drop in journal.drops[1:]] + [None]
+    for drop, after in zip(journal.drops, following):
+        x, name = LEFT + (drop.index + 0.5) * step, f"{names[drop.task]} ({drop.why})"
+        size = LETTER * len(name) + 14
+        has_room = after is None or size <= (after - drop.index) * step
+        marks.append(drop_mark(drop, name, has_room, x, TOP + journal.lanes() * ROW))
+        end = x + size
+    return marks, end
+
+
+def drop_mark(drop, name, has_room, x, y):
+    label = f'<text x="{x + 9:.1f}" y="{y + 14}">{html.escape(name)}</text>' if has_room else ""
+    return (f"<g><title>{html.escape(name)}: dropped at entry {drop.index}</title>"
+            f'<path d="M{x - 5:.1f} {y + 4} l10 0 l-5 9 z" fill="{FAULT}"/>{label}</g>')
 
 
 # ---- Chrome
