@@ -81,7 +81,7 @@ WARNINGS = [
      ['task "j": it waits for both "y" and "n", of which "i" lets only one start']),
     (graph(task("r", "read", "i", text="t"), task("i", "ifhas", "y", "n", word="x"), task("y", "back", "j"), task("n", "back", "j"), task("j", "pass")), []),
     (graph(task("r", "read", "b", text="t"), task("b", "skip", "m", "j", n=1), task("m", "ifmore", "b", "d", n=1), task("d", "pass"),
-           task("o", "read", "j", text="u"), task("j", "match")), ['task "j": it waits for "b", which may end several times, and for "o", which ends once']),
+           task("o", "read", "j", text="u"), task("j", "match")), ['task "j": it waits for "b", which may end several times, and for "o", which is in no loop']),
     (graph(READ, task("a", "read", text="u")), ['"read" takes nothing of what "r" passes to it']),
     (graph(READ, task("a", "sort"), semaphores=[{"name": "s", "max": 1}]), ['semaphore "s": no task takes a unit of it']),
     (graph(READ, task("a", "sort"), modules=[{"name": "m", "tasks": []}]), ['module "m": no task runs it']),

@@ -167,9 +167,9 @@ def uneven_joins(view):
         often = [task for task in before if task in view.several]
         once = [task for task in before if task not in view.several]
         if often and once:
-            ends = "ends once" if len(once) == 1 else "end once each"
+            which = "is" if len(once) == 1 else "are"
             text = f"it waits for {view.names(often)}, which may end several times, and for {view.names(once)}, " \
-                   f"which {ends}: it takes the first value of each, and no later one"
+                   f"which {which} in no loop: later values of {view.names(often)} may find no partner"
             yield view.finding(join, text)
 
 
