@@ -8,14 +8,20 @@ cd "$(dirname "${BASH_SOURCE[0]}")/.."
 graph=docs/log-triage.svg
 run=docs/errors-by-service-run.svg
 
+# Each picture is made beside the one that there is, which stays if that fails.
+made=$(mktemp)
+trap 'rm -f "$made"' EXIT
+
 if command -v dot >/dev/null; then
-    tools/flow-dot examples/log-triage/graph.json | dot -Tsvg >"$graph"
+    tools/flow-dot examples/log-triage/graph.json | dot -Tsvg >"$made"
+    cat "$made" >"$graph"
 else
     echo "pictures: Graphviz isn't here, so $graph stays as it is"
 fi
 
 example=examples/errors-by-service
-tools/flow-trace "$example/graph.json" "$example/journal.txt" --title "A run of $example by four workers" >"$run"
+tools/flow-trace "$example/graph.json" "$example/journal.txt" --title "A run of $example by four workers" >"$made"
+cat "$made" >"$run"
 
 if command -v rsvg-convert >/dev/null; then
     for picture in "$graph" "$run"; do
