@@ -10,6 +10,7 @@ import json
 import pathlib
 import re
 import subprocess
+import sys
 import tempfile
 import unittest
 import xml.etree.ElementTree
@@ -23,7 +24,9 @@ from flow_tools.refusals import refusals
 
 TOP = pathlib.Path(__file__).resolve().parent.parent
 TABLE = TOP / "crates/test_graphs/stdin"
-FIELD_REFUSAL = re.compile(r"(?:bad field|no such name in|repeated name in) (.*?) (?:in|of) ((?:file|semaphore|task|module)[ \d\w]*)$")
+# The field and the object that a refusal names.
+FIELD_REFUSAL = re.compile(r"(?:bad field|no such name in|repeated name in) (.*?) (?:in|of) "
+                           r"((?:file|semaphore|task|module)[ \d\w]*)$")
 
 
 def tool(name):
@@ -51,39 +54,58 @@ def task(name, op, *to, **fields):
     return {"name": name, "op": op, **fields, **({"to": list(to)} if to else {})}
 
 
-READ = task("r", "read", "a", text="t")
+def read(to):
+    return task("r", "read", to, text="t")
 
-# A file, and a part of each line that flow-lint has for it, in the order of the file.
+
+READ = read("a")
+
+# A file, and a part of each line that flow-lint has for it.
 ERRORS = [
-    ('{\n "tasks": [\n  {"name": "a", "op": "sort"}\n  {"name": "b", "op": "sort"} ]}', ['4:3: error: "{" where "," or "]" in a list']),
+    ('{\n "tasks": [\n  {"name": "a", "op": "sort"}\n  {"name": "b", "op": "sort"} ]}',
+     ['4:3: error: "{" where "," or "]" in a list']),
     ('{"tasks": [1, ]}', ['1:13: error: a comma before "]"']),
     ('{"tasks": []} x', ['1:15: error: "x" behind the end']),
-    ('{"tasks":\n [{"name": "a", "op": "suort"}]}', ['2:23: error: task "a": "suort" is no operation here; did you mean "sort"?']),
-    (graph(READ, task("a", "sort", n=3)), ['task "a": the field "n" is unknown for "sort", which has no field of its own']),
-    (graph(task("a", "head", N=3)), ['the field "n" is missing', 'the field "N" is unknown for "head", which has n; did you mean "n"?']),
-    (graph(task("a", "head", n=-1)), ['is -1, and has to be a whole number from 0 to 1,000,000,000']),
-    (graph(task("a", "read", "cuont", text="t"), task("count", "count")), ['"to" names "cuont", and no task of this graph has this name; did you mean "count"?']),
-    (graph(task("a", "input", acquire=["s"]), semaphores=[{"name": "s", "max": 1}]), ['"acquire" is unknown in version 1 of the format, which has holds']),
-    (graph(task("a", "module", module="m"), modules=[{"name": "n", "tasks": []}]), ['"module" names "m", and no module of the file']),
+    ('{"tasks":\n [{"name": "a", "op": "suort"}]}',
+     ['2:23: error: task "a": "suort" is no operation here; did you mean "sort"?']),
+    (graph(READ, task("a", "sort", n=3)),
+     ['task "a": the field "n" is unknown for "sort", which has no field of its own']),
+    (graph(task("a", "head", N=3)),
+     ['the field "n" is missing', 'the field "N" is unknown for "head", which has n; did you mean "n"?']),
+    (graph(task("a", "head", n=-1)),
+     ["is -1, and has to be a whole number from 0 to 1,000,000,000"]),
+    (graph(task("a", "read", "cuont", text="t"), task("count", "count")),
+     ['"to" names "cuont", and no task of this graph has this name; did you mean "count"?']),
+    (graph(task("a", "input", acquire=["s"]), semaphores=[{"name": "s", "max": 1}]),
+     ['"acquire" is unknown in version 1 of the format, which has holds']),
+    (graph(task("a", "module", module="m"), modules=[{"name": "n", "tasks": []}]),
+     ['"module" names "m", and no module of the file']),
     (graph(task("a", "input"), task("a", "input")), ['another task before it has the name "a"']),
     (graph(task("a", "pass", "a")), ["none can start", "waits for itself: a -> a"]),
 ]
 WARNINGS = [
     (graph(READ, task("a", "sort")), []),
-    (graph(READ, task("a", "sort", "c"), task("b", "count", "c"), task("c", "pass")), ['task "b": no task leads to it, so "count" starts by itself']),
-    (graph(task("r", "read", "i", text="t"), task("i", "ifmore", "a", "b", "c", n=1), *(task(name, "pass") for name in "abc")),
+    (graph(READ, task("a", "sort", "c"), task("b", "count", "c"), task("c", "pass")),
+     ['task "b": no task leads to it, so "count" starts by itself']),
+    (graph(read("i"), task("i", "ifmore", "a", "b", "c", n=1), *(task(name, "pass") for name in "abc")),
      ['task "i": "ifmore" never chooses "c": it chooses among the first 2 alone']),
-    (graph(task("r", "read", "o", text="t"), task("o", "route", "a", "b", words=["x"]), task("a", "pass"), task("b", "pass")),
+    (graph(read("o"), task("o", "route", "a", "b", words=["x"]), task("a", "pass"), task("b", "pass")),
      ['"route" never chooses "b": it chooses the first alone']),
     (graph(READ, task("a", "sort", "b"), task("b", "uniq", "a", "c"), task("c", "pass")),
-     ['task "a": waits in a circle without a condition: a -> b -> a', 'task "a": it waits for "b", which may end several times']),
-    (graph(task("r", "read", "i", text="t"), task("i", "ifhas", "y", "n", word="x"), task("y", "sort", "j"), task("n", "uniq", "j"), task("j", "pass")),
+     ['task "a": waits in a circle without a condition: a -> b -> a',
+      'task "a": it waits for "b", which may end several times']),
+    (graph(read("i"), task("i", "ifhas", "y", "n", word="x"), task("y", "sort", "j"), task("n", "uniq", "j"),
+           task("j", "pass")),
      ['task "j": it waits for both "y" and "n", of which "i" lets only one start']),
-    (graph(task("r", "read", "i", text="t"), task("i", "ifhas", "y", "n", word="x"), task("y", "back", "j"), task("n", "back", "j"), task("j", "pass")), []),
-    (graph(task("r", "read", "b", text="t"), task("b", "skip", "m", "j", n=1), task("m", "ifmore", "b", "d", n=1), task("d", "pass"),
-           task("o", "read", "j", text="u"), task("j", "match")), ['task "j": it waits for "b", which may end several times, and for "o", which is in no loop']),
+    (graph(read("i"), task("i", "ifhas", "y", "n", word="x"), task("y", "back", "j"), task("n", "back", "j"),
+           task("j", "pass")), []),
+    (graph(read("b"), task("b", "skip", "m", "j", n=1), task("m", "ifmore", "b", "d", n=1), task("d", "pass"),
+           task("o", "read", "j", text="u"), task("j", "match")),
+     ['task "j": it waits for "b", which may end several times, and for "o", which is in no loop']),
+    (graph(READ, task("a", "match")), ["no second predecessor brings lines to match with"]),
     (graph(READ, task("a", "read", text="u")), ['"read" takes nothing of what "r" passes to it']),
-    (graph(READ, task("a", "sort"), semaphores=[{"name": "s", "max": 1}]), ['semaphore "s": no task takes a unit of it']),
+    (graph(READ, task("a", "sort"), semaphores=[{"name": "s", "max": 1}]),
+     ['semaphore "s": no task takes a unit of it']),
     (graph(READ, task("a", "sort"), modules=[{"name": "m", "tasks": []}]), ['module "m": no task runs it']),
     ('{"tasks": [{"name": "a", "op": "input", "op": "input"}]}', ['the field "op" occurs twice here']),
 ]
@@ -109,7 +131,7 @@ class Lint(unittest.TestCase):
             self.assertEqual(found, wanted.read_text() if wanted.exists() else "", folder.name)
 
     def test_refused_files(self):
-        """It has errors for the files that the program refuses and no others, and what the program names is among them."""
+        """It has errors for the files that the program refuses and no others, with what the program names among them."""
         for line in TABLE.read_text().split("\n")[:-1]:
             said, _, file = line.partition(" | ")
             self.assertTrue(self.agrees(said, file), line)
@@ -121,11 +143,14 @@ class Lint(unittest.TestCase):
             return said == "not JSON"
         if said.startswith("{"):
             return not found
-        field = FIELD_REFUSAL.match(said)
-        return any((finding.field, finding.spot) == field.groups() for finding in found) if field else bool(found) and said != "not JSON"
+        named = FIELD_REFUSAL.match(said)
+        if named:
+            return any((finding.field, finding.spot) == named.groups() for finding in found)
+        return bool(found) and said != "not JSON"
 
     def test_operations(self):
-        self.assertEqual({name: set(field_names(fields)) for name, fields in OPERATIONS.items()}, format_tables.defined_operations())
+        known = {name: set(field_names(fields)) for name, fields in OPERATIONS.items()}
+        self.assertEqual(known, format_tables.defined_operations())
 
     def test_unreadable(self):
         for name in ("nowhere.json", "."):
@@ -136,8 +161,8 @@ class Lint(unittest.TestCase):
 class Dot(unittest.TestCase):
     def test_log_join(self):
         text = dot.dot(load(TOP / "examples/log-join/graph.json"))
-        for part in ('t9 [shape=diamond', 't9 -> t8 [style=dashed, label=<more than 1>]', "t8 -> t9\n", "subgraph cluster_0", "m0_0 -> m0_1\n",
-                     "<i>holds io</i>", "io (2)", "module clean"):
+        for part in ("t9 [shape=diamond", "t9 -> t8 [style=dashed, label=<more than 1>]", "t8 -> t9\n",
+                     "subgraph cluster_0", "m0_0 -> m0_1\n", "<i>holds io</i>", "io (2)", "module clean"):
             self.assertIn(part, text)
         self.assertEqual(text.count("style=dashed"), 2)
 
@@ -164,13 +189,17 @@ class Trace(unittest.TestCase):
             return journals.read_journal(file.name, tasks)
 
     def test_lanes(self):
-        journal = self.journal("flow journal 2\nstart 0 source -\nstart 1 source -\nend 0 0 plain\nstart 2 strong 2\nfault 1 long:9\ndrop 2 strong halted\n", 3)
-        self.assertEqual([(span.task, span.start, span.end, span.lane) for span in journal.spans], [(0, 0, 2, 0), (1, 1, 4, 1), (2, 3, None, 0)])
+        entries = ["start 0 source -", "start 1 source -", "end 0 0 plain", "start 2 strong 2", "fault 1 long:9",
+                   "drop 2 strong halted"]
+        journal = self.journal("\n".join(["flow journal 2", *entries, ""]), 3)
+        spans = [(span.task, span.start, span.end, span.lane) for span in journal.spans]
+        self.assertEqual(spans, [(0, 0, 2, 0), (1, 1, 4, 1), (2, 3, None, 0)])
         self.assertEqual([(drop.task, drop.index, drop.why) for drop in journal.drops], [(2, 5, "halted")])
 
     def test_refused(self):
-        for text in ("", "flow journal 2", "flow journal 3\n", "flow journal 2\nstart 5 source -\n", "flow journal 2\nend 0 - plain\n",
-                     "flow journal 2\nstart 0 source\n", "## round 1\nflow journal 2\n"):
+        for text in ("", "flow journal 2", "flow journal 3\n", "flow journal 2\nstart 5 source -\n",
+                     "flow journal 2\nend 0 - plain\n", "flow journal 2\nstart 0 source\n",
+                     "## round 1\nflow journal 2\n"):
             with self.assertRaises(UnreadableFile, msg=text):
                 self.journal(text, 2)
 
@@ -188,11 +217,15 @@ class Trace(unittest.TestCase):
 
 
 class Completion(unittest.TestCase):
-    CALL = 'source share/flow.bash; compopt() { :; }; COMP_WORDS=("$@"); COMP_CWORD=$(($# - 1)); _flow; echo "${COMPREPLY[*]}"'
+    CALL = """source share/flow.bash
+              compopt() { :; }
+              COMP_WORDS=("$@") COMP_CWORD=$(($# - 1))
+              _flow
+              echo "${COMPREPLY[*]}" """
 
     def words(self, *words):
-        done = subprocess.run(["bash", "-c", self.CALL, "bash", *words], capture_output=True, text=True, cwd=TOP, check=True)
-        return done.stdout.split()
+        call = ["bash", "-c", self.CALL, "bash", *words]
+        return subprocess.run(call, capture_output=True, text=True, cwd=TOP, check=True).stdout.split()
 
     def test_words(self):
         self.assertEqual(self.words("flow", ""), [command.name for command in format_tables.commands()])
@@ -204,8 +237,14 @@ class Completion(unittest.TestCase):
         self.assertIn("Makefile", self.words("flow", "run", ""))
 
 
-if __name__ == "__main__":
-    result = unittest.TextTestRunner(stream=(said := io.StringIO()), verbosity=0).run(unittest.defaultTestLoader.loadTestsFromModule(__import__("__main__")))
+def main():
+    said = io.StringIO()
+    tests = unittest.defaultTestLoader.loadTestsFromModule(sys.modules["__main__"])
+    result = unittest.TextTestRunner(stream=said, verbosity=0).run(tests)
     if not result.wasSuccessful():
-        print(said.getvalue())
-    raise SystemExit(0 if result.wasSuccessful() else 1)
+        print(said.getvalue(), file=sys.stderr)
+        sys.exit(1)
+
+
+if __name__ == "__main__":
+    main()
