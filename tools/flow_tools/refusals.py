@@ -130,7 +130,7 @@ def graph_findings(graph, version):
 def task_findings(task, version):
     name_field, last = Field("name", name), (TO, *UNIT_LISTS[version])
     operation = task.node.get("op")
-    if operation is None or not operation.is_text or operation.value not in OPERATIONS:
+    if not is_one_of(operation, OPERATIONS):
         known = field_names((name_field, *last))
         yield from (finding for finding in field_findings(task, (name_field, *last)) if finding.field in known)
         yield task.finding("op", operation_fault(operation, OPERATIONS))
@@ -139,6 +139,11 @@ def task_findings(task, version):
     fields = (name_field, OPERATION, *own, *last)
     yield from field_findings(task, fields, lambda field: why_unknown(field, operation.value, own, version))
     yield from (task.finding(field, what, offset) for field, what, offset in inner_findings(task.node, own))
+
+
+def is_one_of(operation, operations):
+    """Whether the node of a field `op` names one of these operations."""
+    return operation is not None and operation.is_text and operation.value in operations
 
 
 def operation_fault(operation, operations):
@@ -178,7 +183,7 @@ def operation_faults(node, operations, others, called):
     if not node.is_object:
         return
     operation = node.get("op")
-    if operation is None or not operation.is_text or operation.value not in operations:
+    if not is_one_of(operation, operations):
         yield f"{called}: {operation_fault(operation, operations)}", (operation or node).offset
         return
     own = operations[operation.value]
