@@ -1,1 +1,2 @@
 pub mod SumMeaning
+pub mod Squares

@@ -1,15 +1,18 @@
 //! A tour of the library: a job of one's own, run by four threads.
 //!
-//! `sum_job.rt` has the job, whose meaning is in `specs/SumMeaning.antt`; `crew.rt` has it run by a crew. The program
-//! prints with which number each task ended, and how many entries the journal has. It is no part of the product.
+//! `sum_job.rt` has the job, whose meaning is in `specs/SumMeaning.antt`; `crew.rt` has it run by a crew. `squares.rt` has
+//! a loop over numbers as a job of chunks, which is run by one thread. The program prints with which number each task
+//! ended, and the sum of ten squares. It is no part of the product.
 #![tactic(auto)]
 
 mod crew;
+mod squares;
 mod sum_job;
 
 use crew::run_by_crew;
 use outside_io::{List, NoMemory};
 use run_frame::FrameRun;
+use squares::sum_of_squares;
 use std::alloc::Global;
 use std::io;
 use std::sync::{Arc, Wait};
@@ -26,9 +29,12 @@ fn main(rt: HostRuntime) -> io::Result<()> {
             for sum in sums.as_slice() {
                 println!(rt; "{sum}")?;
             }
-            Ok(())
         }
-        Err(NoMemory) => println!(rt; "out of memory"),
+        Err(NoMemory) => println!(rt; "out of memory")?,
+    }
+    match sum_of_squares(&rt, rt.alloc(), 10, 3) {
+        Some(sum) => println!(rt; "{sum}"),
+        None => println!(rt; "out of memory"),
     }
 }
 
