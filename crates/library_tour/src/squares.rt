@@ -49,11 +49,18 @@ pub fn sum_of_squares<R: Wait>(rt: &R, alloc: Global, count: u64, grain: u64) ->
     ensures { IfSome result (λ sum. sum ≡ plain_fold squaring (squares count) count) }
 {
     let fold = Arc::new(alloc, Squares { count }).ok()?;
-    let job = Arc::new(alloc, ChunkJob::new(alloc, fold, count, grain).ok()?).ok()?;
-    let run = run_alone(rt, alloc, job, &mut SpanCount::new()).ok()?;
-    if run.is_fine() {
-        run.job.gather(alloc, &run).ok()
-    } else {
-        None
+    let Ok(job) = ChunkJob::new(alloc, fold, count, grain) else {
+        return None;
+    };
+    let job = Arc::new(alloc, job).ok()?;
+    let Ok(run) = run_alone(rt, alloc, job, &mut SpanCount::new()) else {
+        return None;
+    };
+    if !run.is_fine() {
+        return None;
+    }
+    match run.job.gather(alloc, &run) {
+        Ok(sum) => Some(sum),
+        Err(_error) => None,
     }
 }
