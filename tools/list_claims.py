@@ -34,6 +34,7 @@ UNCLAIMED = {
     ),
     "a proof itself: a law that the trait Job asks of text jobs, or Fold of folds, or one that it stands on": (
         "line_folds/specs/WordFolds.antt: word_fold_lawful",
+        "line_maps/specs/LineMaps.antt: mapping_lawful",
         "text_tasks/specs/JobLaws.antt: text_answers_fit text_faults_own text_gather_faults_own"
         " graph_in_plan graph_of_work op_count",
     ),
