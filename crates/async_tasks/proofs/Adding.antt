@@ -20,7 +20,7 @@ use Rattle.async_tasks.specs.Books.{BookHistory, book_history, value_in, value_a
 use Rattle.async_tasks.specs.Adds.{task_limit, first_unseen, next_row, with_add}
 use Rattle.async_tasks.specs.inside.Keeps.{StageFits, ItemFits, KeepsBook}
 use Rattle.async_tasks.proofs.Lists.{get_push_cases, get_in_range, get_past_end, get_kept, some_kept, all_push, each_map}
-use Rattle.async_tasks.proofs.Telling.{found_same, all_same, value_push, staged_push, rows_of_other}
+use Rattle.async_tasks.proofs.Telling.{left_push, found_same, all_same, value_push, staged_push, rows_of_other}
 
 -- what may happen goes on to be allowed
 rule_kept : (rows : List AddRow) (row : AddRow) (events : List TaskEvent) (event : TaskEvent) → EventRule rows events event → EventRule (rows ++ row ∷ []) events event
@@ -39,7 +39,7 @@ module _ {W V : Type 0} (answers : W → List V → V → Type 0) (book : BookHi
 
   history_kept : IsHistory book.callers book.rows book.events → caller < book.callers → AllByRecursion (λ a. a < length book.rows) after → IsHistory more.callers more.rows more.events
   history_kept h below named = record {
-    each_row = EachAfter-push (RowRule book.callers) book.rows row h.each_row (record { id = refl; caller = below; after = named });
+    each_row = EachAfter-push (RowRule book.callers) book.rows row h.each_row (record { id = refl; caller = below; after = named; rising = h.places });
     places = all_push (λ (r : AddRow). r.place ≤ length book.events) book.rows row h.places (omega arith);
     each_event = each_map (EventRule book.rows) (EventRule more.rows) [] book.events (λ before event. rule_kept book.rows row before event) h.each_event;
   }
@@ -96,6 +96,7 @@ module _ {W V : Type 0} (answers : W → List V → V → Type 0) (book : BookHi
     row_count = omega (arith, length_push book.rows row);
     work_count = omega (arith, length_push book.rows row, length_push book.works work, h.work_count);
     stage_count = omega (arith, length_push book.rows row, length_push book.stages Waiting, h.stage_count);
+    event_count = omega (arith, length_push book.rows row, left_push book.stages, h.event_count);
     staged = λ t. staged_push (StageFits book.events t) book.stages t (λ fits. fits) (h.staged t);
     inputs = inputs_kept h;
     values = values_kept h;

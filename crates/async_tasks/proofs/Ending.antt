@@ -1,5 +1,5 @@
 -- An end keeps what holds of a book.
-use Rattle.std.proofs.Common.{◌≡◌, ◌≢◌, ◌⊎◌, inl, inr, ℕ, ◌+◌, ◌≤◌, List, [], ◌∷◌, ◌++◌, length, map, set, Option, Some, None, refl, sym, ap, ◌∙◌, subst, arith, length-set}
+use Rattle.std.proofs.Common.{◌≡◌, ◌≢◌, ◌⊎◌, inl, inr, ℕ, ◌+◌, ◌<◌, ◌≤◌, List, [], ◌∷◌, ◌++◌, length, map, set, Option, Some, None, refl, sym, ap, ◌∙◌, subst, arith, length-set}
 use Rattle.std.specs.Prelude.{slice_get, IsSomeAnd}
 use Rattle.std.specs.Arc.{arc_value}
 use Rattle.std.specs.declared.alloc.Global.{Global}
@@ -19,10 +19,10 @@ use Rattle.async_tasks.specs.Books.{BookHistory, book_history, value_in, value_a
 use Rattle.async_tasks.specs.Adds.{with_end, with_items, EndsTask}
 use Rattle.async_tasks.specs.Starts.{OpenStart, IsTicketFor, open_start}
 use Rattle.atomic_table.specs.Seated.{TableId}
-use Rattle.async_tasks.specs.inside.Keeps.{StageFits, ItemFits, KeepsBook}
+use Rattle.async_tasks.specs.inside.Keeps.{StageFits, ItemFits, KeepsBook, HasRoom}
 use Rattle.async_tasks.proofs.Lists.{some_same, get_set_same, get_set_other, some_at, all_map}
 use Rattle.async_tasks.proofs.Issuing.{keeps_redeem, nothing_left}
-use Rattle.async_tasks.proofs.Telling.{found_same, started_as_before, ended_here, ended_elsewhere, started_of_value}
+use Rattle.async_tasks.proofs.Telling.{left_set, found_same, started_as_before, ended_here, ended_elsewhere, started_of_value}
 
 module _ {W V : Type 0} (answers : W → List V → V → Type 0) (book : BookHistory W V) (t : ℕ) (work : W) (ins : List V) (value : Arc V Global) where
   abbrev more : BookHistory W V
@@ -110,6 +110,7 @@ module _ {W V : Type 0} (answers : W → List V → V → Type 0) (book : BookHi
       row_count = h.row_count;
       work_count = h.work_count;
       stage_count = length-set book.stages t (Over value) ∙ h.stage_count;
+      event_count = omega (arith, length_push book.events (Ended t), left_set book.stages t Open (Over value) running, h.event_count);
       staged = staged_kept;
       inputs = λ u r at_row started. all_ended r.after (inputs_before u r at_row started);
       values = values_kept;
@@ -156,6 +157,10 @@ module _ {W V : Type 0} (answers : W → List V → V → Type 0) (register : Ta
   -- the counts of an open start
   pub open_counts : (t : ℕ) (w : W) (ins : List V) → KeepsBook answers book → HasOpen t w ins → (times_started events t ≡ 1) × (times_ended events t ≡ 0)
   open_counts t w ins h o = subst (StageFits events t) o.running (h.staged t)
+
+  -- there is memory for its end
+  pub room_to_end : (t : ℕ) (w : W) (ins : List V) (value : Arc V Global) (capacity : ℕ) → KeepsBook answers book → HasOpen t w ins → HasRoom (length rows) capacity → length events < capacity
+  room_to_end t w ins value capacity h o room = omega (arith, left_set stages t Open (Over value) o.running, h.event_count)
 
   -- What an end says, by the parts of the book.
   pub ends : (register' reg : TableId) (events' : List TaskEvent) (stages' : List (Stage V)) (items' : List (Option (Outstanding W V))) (t : ℕ) (w : W) (ins : List V) (value : Arc V Global) →

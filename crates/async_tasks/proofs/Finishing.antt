@@ -1,6 +1,6 @@
 -- A book in which each task is over is a finished run.
-use Rattle.std.proofs.Common.{◌≡◌, ℕ, ◌<◌, true, List, [], length, map, Option, Some, None, refl, sym, ◌∙◌, arith}
-use Rattle.std.specs.Prelude.{slice_get, is_some}
+use Rattle.std.proofs.Common.{◌≡◌, ℕ, ◌<◌, true, false, List, [], length, map, Option, Some, None, refl, sym, subst, ◌∙◌, arith}
+use Rattle.std.specs.Prelude.{slice_get, is_some, IfSome}
 use Rattle.std.specs.Arc.{arc_value}
 use Rattle.std.specs.declared.alloc.Global.{Global}
 use Rattle.std.specs.declared.sync.Arc.{Arc}
@@ -12,8 +12,9 @@ use Rattle.async_tasks.specs.declared.history.TaskEvent.{TaskEvent}
 use Rattle.async_tasks.specs.declared.outstanding.Outstanding.{Outstanding}
 use Rattle.async_tasks.specs.declared.stage.Stage.{Stage}
 use Rattle.async_tasks.specs.declared.stage.Stage.TheVariants.{Waiting, Open, Over}
-use Rattle.async_tasks.specs.Histories.{times_started, times_ended}
-use Rattle.async_tasks.specs.Books.{book_history, value_in}
+use Rattle.async_tasks.specs.Histories.{times_started, times_ended, IsHistory}
+use Rattle.async_tasks.specs.Adds.{HasNoEnd}
+use Rattle.async_tasks.specs.Books.{BookHistory, book_history, value_in}
 use Rattle.async_tasks.specs.Runs.{IsAsyncRun}
 use Rattle.async_tasks.specs.inside.Ready.{is_over}
 use Rattle.async_tasks.specs.inside.Keeps.{StageFits, KeepsBook}
@@ -41,6 +42,28 @@ is_run answers register callers callers' rows rows' events events' works works' 
       values = h.values;
     }
 
+-- a task that has no value has no end
+not_over : {V : Type 0} (events : List TaskEvent) (t : ℕ) (o : Option (Stage V)) → StageFits events t o → is_some (value_in o) ≡ false → times_ended events t ≡ 0
+not_over events t None fits is = fits.1
+not_over events t (Some Waiting) fits is = fits.1
+not_over events t (Some Open) fits is = fits.1
+not_over events t (Some (Over value)) fits is = absurd (false≢true (sym is))
+
+module _ {W V : Type 0} (answers : W → List V → V → Type 0) (register : TableId) (callers : ℕ) (rows : List AddRow) (events : List TaskEvent) (works : List W) (stages : List (Stage V)) (items : List (Option (Outstanding W V))) where
+  abbrev book : BookHistory W V
+  book = book_history register callers rows events works stages items
+
+  -- the task that was found without a value has no end
+  pub open_has_no_end : (stages' : List (Stage V)) (o : Option ℕ) (seen : BookHistory W V) → KeepsBook answers book → stages' ≡ stages → IfSome o (λ t. (t < length stages') × (is_over stages' t ≡ false)) → book ≡ seen → IfSome o (HasNoEnd seen)
+  open_has_no_end stages' None seen h same first is = tt
+  open_has_no_end stages' (Some t) seen h same first is = rw (← is) (
+    let below : t < length stages = subst (λ ss. t < length ss) same first.0 in omega (arith, h.stage_count),
+    not_over events t (slice_get stages t) (h.staged t) (subst (λ ss. is_over ss t ≡ false) same first.1),
+  )
+
+  pub history_of : (seen : BookHistory W V) → KeepsBook answers book → book ≡ seen → IsHistory seen.callers seen.rows seen.events
+  history_of seen h is = rw (← is) h.history
+
 -- a book without tasks
 pub keeps_none : {W V : Type 0} (answers : W → List V → V → Type 0) (register : TableId) (callers : ℕ) (rows : List AddRow) (events : List TaskEvent) (works : List (Arc W Global)) (stages : List (Stage V)) (items : List (Option (Outstanding W V))) →
     rows ≡ [] → events ≡ [] → works ≡ [] → stages ≡ [] → items ≡ [] → KeepsBook answers (book_history register callers rows events (map arc_value works) stages items)
@@ -50,6 +73,7 @@ keeps_none answers register callers rows events works stages items no_rows no_ev
       row_count = omega arith;
       work_count = refl;
       stage_count = refl;
+      event_count = refl;
       staged = λ t. (refl, refl);
       inputs = λ t row at started. absurd (omega (arith, started));
       values = λ t row work v at has_work has_value. absurd (cc);

@@ -55,6 +55,7 @@ module _ {W V : Type 0} where
       row_count = h.row_count;
       work_count = h.work_count;
       stage_count = h.stage_count;
+      event_count = h.event_count;
       staged = h.staged;
       inputs = h.inputs;
       values = h.values;
@@ -68,6 +69,7 @@ module _ {W V : Type 0} where
       row_count = h.row_count;
       work_count = h.work_count;
       stage_count = h.stage_count;
+      event_count = h.event_count;
       staged = h.staged;
       inputs = h.inputs;
       values = h.values;

@@ -8,5 +8,7 @@ mod Passing
 mod Keys
 mod Finishing
 mod Beginning
+mod Counting
+mod Looking
 mod Closing
 pub mod Crossing

@@ -1,5 +1,5 @@
 -- What a pass has seen and kept after an add.
-use Rattle.std.proofs.Common.{◌≡◌, ℕ, ◌+◌, true, cond, eqb, List, [], ◌∷◌, ◌++◌, length, map, refl, sym, ap, ◌∙◌, subst, arith}
+use Rattle.std.proofs.Common.{◌≡◌, ℕ, ◌+◌, ◌<◌, true, cond, eqb, List, [], ◌∷◌, ◌++◌, length, map, Some, refl, sym, ap, ◌∙◌, subst, arith}
 use Rattle.std.specs.Prelude.{Result, Ok, Err, OnOk, OnErr, IfOk, IfErr}
 use Rattle.std.specs.declared.alloc.Global.{Global}
 use Rattle.std.specs.declared.sync.Arc.{Arc}
@@ -11,7 +11,10 @@ use Rattle.async_tasks.specs.declared.state.AddError.{AddError}
 use Rattle.async_tasks.specs.Histories.{rows_of, kept_row, kept_of}
 use Rattle.async_tasks.specs.Books.{BookHistory, key_of}
 use Rattle.async_tasks.specs.Adds.{next_row, with_add, RefusesAdd}
-use Rattle.async_tasks.specs.Starts.{HasSeen}
+use Rattle.async_tasks.specs.Starts.{HasSeen, rows_seen}
+use Rattle.async_tasks.specs.Passes.{pass_state, HasLooked}
+use Rattle.async_tasks.specs.declared.outstanding.Outstanding.{Outstanding}
+use Rattle.tickets.specs.Books.{TicketState}
 
 -- the rows of a caller after its own add
 kept_more : (caller : ℕ) (rows : List AddRow) (row : AddRow) → row.caller ≡ caller → kept_of caller (rows ++ row ∷ []) ≡ kept_of caller rows ++ kept_row row ∷ []
@@ -53,3 +56,11 @@ module _ {W V : Type 0} (mid new : BookHistory W V) (caller : ℕ) (work : W) (a
   pub table_same : (r : Result ℕ (AddError W)) → OnOk r (new ≡ with_add mid caller work after) → OnErr r (new ≡ mid) → key_of new ≡ key_of mid
   table_same (Ok id) ok err = ap (λ (b : BookHistory W V). key_of b) ok
   table_same (Err e) ok err = ap (λ (b : BookHistory W V). key_of b) err
+
+-- A pass whose ticket shows all rows has looked into the book.
+pub has_looked : {W V : Type 0} (caller : ℕ) (rows : List AddRow) (t u : TicketState (Outstanding W V)) → t.number < u.number → HasSeen rows caller (rows_seen t.item) → rows_seen u.item ≡ rows → HasLooked rows (pass_state caller (Some t)) (pass_state caller (Some u))
+has_looked caller rows t u later seen all = record {
+  again = record { caller = refl; later = later; longer = (seen.0.0, all ∙ seen.0.1) };
+  all = all;
+  same_kept = ap (kept_of caller) all ∙ ap (map kept_row) seen.1;
+}

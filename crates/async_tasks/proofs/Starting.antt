@@ -22,10 +22,10 @@ use Rattle.async_tasks.specs.Adds.{CanStart, with_start, StartsTask}
 use Rattle.atomic_table.specs.Seated.{TableId}
 use Rattle.async_tasks.specs.Starts.{IsTicketFor, open_start}
 use Rattle.async_tasks.specs.inside.Ready.{is_over, IsReady}
-use Rattle.async_tasks.specs.inside.Keeps.{StageFits, ItemFits, KeepsBook}
+use Rattle.async_tasks.specs.inside.Keeps.{StageFits, ItemFits, KeepsBook, HasRoom}
 use Rattle.async_tasks.proofs.Lists.{some_same, get_in_range, not_none, both_of, get_set_same, get_set_other, some_at, all_map, all_at}
 use Rattle.async_tasks.proofs.Issuing.{keeps_issue}
-use Rattle.async_tasks.proofs.Telling.{found_same, all_same, value_opened, started_here, started_elsewhere, ended_as_before}
+use Rattle.async_tasks.proofs.Telling.{left_set, found_same, all_same, value_opened, started_here, started_elsewhere, ended_as_before}
 
 module _ {W V : Type 0} (answers : W → List V → V → Type 0) (book : BookHistory W V) (t : ℕ) (row : AddRow) where
   abbrev more : BookHistory W V
@@ -108,6 +108,7 @@ module _ {W V : Type 0} (answers : W → List V → V → Type 0) (book : BookHi
       row_count = h.row_count;
       work_count = h.work_count;
       stage_count = length-set book.stages t Open ∙ h.stage_count;
+      event_count = omega (arith, length_push book.events (Started t), left_set book.stages t Waiting Open waiting, h.event_count);
       staged = staged_kept;
       inputs = inputs_kept;
       values = values_kept;
@@ -218,6 +219,10 @@ module _ {W V : Type 0} (answers : W → List V → V → Type 0) (register : Ta
   ready_below t h ready =
       let below = get_in_range stages t Waiting ready.0 in
       (omega (arith, below, h.stage_count), omega (arith, below, h.stage_count, h.work_count))
+
+  -- there is memory for its start
+  pub room_to_start : (t capacity : ℕ) → KeepsBook answers book → IsReady rows stages t → HasRoom (length rows) capacity → length events < capacity
+  room_to_start t capacity h ready room = omega (arith, left_set stages t Waiting Open ready.0, h.event_count)
 
   -- the inputs of a task that is ready, from its row
   pub has_inputs : (t : ℕ) (d : AddRow) (ins : List V) → t < length rows → ins ≡ found (value_at stages) (get_or rows t d).after → IsSomeAnd (slice_get rows t) (λ (row : AddRow). ins ≡ found (value_at stages) row.after)

@@ -1,10 +1,11 @@
 -- What a task's counts, its value and its inputs are after a change.
 use Rattle.std.proofs.Common.{◌≡◌, ◌≢◌, ℕ, zero, suc, ◌+◌, true, false, cond, eqb, List, [], ◌∷◌, ◌++◌, set, Option, Some, None, refl, sym, ap, ◌∙◌, arith}
-use Rattle.std.specs.Prelude.{slice_get}
+use Rattle.std.specs.Prelude.{slice_get, sum_by}
 use Rattle.std.specs.List.{AllByRecursion}
 use Rattle.std.specs.Option.{option_to_list}
 use Rattle.std.proofs.lemmas.Bool.Decides.{nat_tests}
 use Rattle.std.proofs.lemmas.List.{append-nil, append_assoc}
+use Rattle.std.proofs.lemmas.List.Sums.{sum_by-cons, sum_by_push}
 use Rattle.std.proofs.lemmas.List.Elements.{filter-append}
 use Rattle.journal_rules.proofs.Snoc.{count_by_push}
 use Rattle.async_tasks.specs.declared.history.AddRow.{AddRow}
@@ -14,7 +15,8 @@ use Rattle.async_tasks.specs.declared.stage.Stage.{Stage}
 use Rattle.async_tasks.specs.declared.stage.Stage.TheVariants.{Waiting, Open, Over}
 use Rattle.async_tasks.specs.Histories.{is_start_of, is_end_of, times_started, times_ended, rows_of, found}
 use Rattle.async_tasks.specs.Books.{value_in, value_at}
-use Rattle.async_tasks.specs.inside.Keeps.{StageFits}
+use Rattle.async_tasks.specs.inside.Keeps.{StageFits, events_left}
+use Rattle.async_tasks.proofs.Lists.{some_same}
 
 -- the counts of tasks, after a start
 pub started_here : (events : List TaskEvent) (t : ℕ) → times_started (events ++ Started t ∷ []) t ≡ times_started events t + 1
@@ -92,6 +94,16 @@ module _ {V : Type 0} where
   started_of_value events t (Some Waiting) v h is = absurd (cc)
   started_of_value events t (Some Open) v h is = absurd (cc)
   started_of_value events t (Some (Over value)) v h is = h.0
+
+-- the events to come, after a new task and after a change of one
+module _ {V : Type 0} where
+  pub left_push : (stages : List (Stage V)) → sum_by events_left (stages ++ Waiting ∷ []) ≡ sum_by events_left stages + 2
+  left_push stages = sum_by_push events_left stages Waiting
+
+  pub left_set : (stages : List (Stage V)) (k : ℕ) (old new : Stage V) → slice_get stages k ≡ Some old → sum_by events_left (set stages k new) + events_left old ≡ sum_by events_left stages + events_left new
+  left_set [] k old new at = absurd (cc)
+  left_set (s ∷ ss) zero old new at = let same = ap events_left (some_same at) in omega (arith, sum_by-cons events_left s ss, sum_by-cons events_left new ss)
+  left_set (s ∷ ss) (suc k) old new at = let rest = left_set ss k old new at in omega (arith, sum_by-cons events_left s ss, sum_by-cons events_left s (set ss k new))
 
 -- the rows of a caller, after an add of another
 pub rows_of_other : (caller : ℕ) (rows : List AddRow) (row : AddRow) → row.caller ≢ caller → rows_of caller (rows ++ row ∷ []) ≡ rows_of caller rows

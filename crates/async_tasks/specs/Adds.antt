@@ -55,6 +55,10 @@ CanStart book t =
     (times_started book.events t ≡ 0)
     × IsSomeAnd (slice_get book.rows t) (λ (row : AddRow). AllEnded book.events row.after)
 
+-- a task has a row and no end
+abbrev pub HasNoEnd : {W V : Type 0} → BookHistory W V → ℕ → Type 0
+HasNoEnd book t = (t < length book.rows) × (times_ended book.events t ≡ 0)
+
 -- the book with this start
 abbrev pub with_start : {W V : Type 0} → BookHistory W V → ℕ → BookHistory W V
 with_start book t = record {

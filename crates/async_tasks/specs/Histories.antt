@@ -29,11 +29,12 @@ times_ended events t = count_by (is_end_of t) events
 abbrev pub AllEnded : List TaskEvent → List ℕ → Type 0
 AllEnded events tasks = AllByRecursion (λ a. times_ended events a ≡ 1) tasks
 
--- A row may follow these rows: it has the next number, and names rows before it.
+-- A row may follow these rows: it has the next number, names rows before it, and was added no earlier than they.
 pub record RowRule (callers : ℕ) (rows : List AddRow) (row : AddRow) : Type 0 where
   pub id : row.id ≡ length rows
   pub caller : row.caller < callers
   pub after : AllByRecursion (λ a. a < length rows) row.after
+  pub rising : AllByRecursion (λ (earlier : AddRow). earlier.place ≤ row.place) rows
 
 -- A task starts once, after its row was added and after all that it names ended. It ends once, after its start.
 abbrev pub EventRule : List AddRow → List TaskEvent → TaskEvent → Type 0

@@ -1,5 +1,5 @@
 -- Passes of callers, as contracts see them.
-use Rattle.std.specs.Prelude.{◌≡◌, ℕ, ◌<◌, List, [], ◌++◌, Option, Some, None, IsSomeAnd}
+use Rattle.std.specs.Prelude.{◌≡◌, ℕ, ◌<◌, List, [], ◌∷◌, ◌++◌, Option, Some, None, IsSomeAnd}
 use Rattle.atomic_table.specs.Seated.{TableId}
 use Rattle.tickets.specs.Books.{TicketState}
 use Rattle.async_tasks.specs.declared.history.AddRow.{AddRow}
@@ -49,3 +49,16 @@ module _ {W V : Type 0} where
     pub caller : new.caller ≡ old.caller
     pub later : looked old < looked new
     pub longer : (more : List AddRow) × (seen new ≡ seen old ++ more)
+
+  -- It has looked into the book and has seen all of these rows, among which it keeps what it kept.
+  pub record HasLooked (rows : List AddRow) (old new : PassState W V) : Type 0 where
+    pub again : LooksAgain old new
+    pub all : seen new ≡ rows
+    pub same_kept : kept new ≡ kept old
+
+  -- so has each of these passes
+  abbrev pub HaveLooked : List AddRow → List (PassState W V) → List (PassState W V) → Type 0
+  HaveLooked rows [] [] = Unit {0}
+  HaveLooked rows [] (new ∷ after) = ⊥
+  HaveLooked rows (old ∷ before) [] = ⊥
+  HaveLooked rows (old ∷ before) (new ∷ after) = HasLooked rows old new × HaveLooked rows before after

@@ -181,7 +181,7 @@ impl<W: AsyncWork> AsyncBook<W> {
         started
     }
 
-    /// Ends a start with a value, and queues what is ready by that. After an `Err` the start stays open.
+    /// Ends a start with a value, and queues what is ready by that.
     #[tactic(auto, using(crate::proofs::Keys::same_register))]
     pub(crate) fn end<R: Wait>(
         &self,
@@ -189,7 +189,7 @@ impl<W: AsyncWork> AsyncBook<W> {
         owner: &mut Owner<ReadyTask>,
         started: Started<W>,
         value: Arc<W::V>,
-    ) -> Result<(), NoMemory>
+    )
         requires owner { owner.old.tag ≡ [] }
         requires started { started.register ≡ self.now.register }
         requires answered { W.answers started.work started.ins (arc_value value) }
@@ -199,9 +199,8 @@ impl<W: AsyncWork> AsyncBook<W> {
             value: mut state,
             pass,
         } = self.lock.take(rt);
-        let ended = state.end_in(&self.register, started, value);
+        state.end_in(&self.register, started, value);
         let _ = self.push_ready(rt, owner, &mut state); // what is left over is queued by a later step
         self.lock.put(Held { value: state, pass });
-        ended
     }
 }

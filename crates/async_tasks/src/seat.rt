@@ -86,7 +86,7 @@ impl AsyncSeat {
         let task = started.task;
         let value = started.work.run(self.alloc, &started.ins)?;
         let value = Arc::new(self.alloc, value)?;
-        book.end(rt, &mut self.owner, started, value)?;
+        book.end(rt, &mut self.owner, started, value);
         Ok(AsyncStep::Ran(task))
     }
 }

@@ -1,12 +1,13 @@
 // What is under the lock of a book of tasks, and its three changes.
-ghost use Rattle.std.specs.Prelude.{◌≡◌, ◌+◌, ◌<◌, ◌≤◌, ◌++◌, ◌∷◌, [], ℕ, true, false, List as Items, length, map, IfOk, IfErr, OnOk, OnErr, Some, None, slice_get, slice_set, IfSome, IfNone};
+ghost use Rattle.std.specs.Prelude.{◌≡◌, ◌+◌, ◌<◌, ◌≤◌, ◌++◌, ◌∷◌, [], ℕ, true, List as Items, length, map, IfOk, IfErr, OnOk, OnErr, Some, None, slice_get, slice_set, IfSome, IfNone};
 ghost use Rattle.std.specs.Vec.{vec_capacity, vec_len};
 ghost use Rattle.std.specs.Arc.{arc_value};
-ghost use Rattle.async_tasks.specs.Adds.{after_limit, task_limit, first_unseen, with_add, RefusesAdd, CanStart, StartsTask, EndsTask, with_items};
+ghost use Rattle.async_tasks.specs.Adds.{after_limit, task_limit, first_unseen, with_add, RefusesAdd, CanStart, HasNoEnd, StartsTask, EndsTask, with_items};
 ghost use Rattle.async_tasks.specs.declared.history.AddRow.{AddRow};
-ghost use Rattle.async_tasks.specs.Histories.{kept_of};
-ghost use Rattle.async_tasks.specs.Passes.{seen, IsTicketOf};
+ghost use Rattle.async_tasks.specs.Histories.{kept_of, IsHistory};
+ghost use Rattle.async_tasks.specs.Passes.{seen, IsTicketOf, HasLooked};
 ghost use Rattle.async_tasks.specs.Runs.{IsAsyncRun};
+ghost use Rattle.async_tasks.specs.inside.Keeps.{HasRoom};
 ghost use Rattle.async_tasks.specs.inside.Ready.{is_over};
 ghost use Rattle.async_tasks.specs.Starts.{IsPassFor, rows_seen, HasSeen, IsFreshPass};
 ghost use Rattle.async_tasks.specs.Books.{caller_of, book_key, key_of, NothingOut};
@@ -61,13 +62,14 @@ pub struct BookState<W: AsyncWork> {
 }
 
 impl<W: AsyncWork> Model for BookState<W> {
-    ghost use Rattle.std.specs.Prelude.{map};
+    ghost use Rattle.std.specs.Prelude.{length, map};
+    ghost use Rattle.std.specs.Vec.{vec_capacity};
     ghost use Rattle.std.specs.Arc.{arc_value};
     ghost use Rattle.async_tasks.specs.declared.history.AddRow.{AddRow};
     ghost use Rattle.async_tasks.specs.Histories.{kept_of};
     ghost use Rattle.async_tasks.specs.Starts.{IsPassFor, rows_seen, HasSeen, IsFreshPass};
     ghost use Rattle.async_tasks.specs.Books.{BookHistory, book_history};
-    ghost use Rattle.async_tasks.specs.inside.Keeps.{KeepsBook};
+    ghost use Rattle.async_tasks.specs.inside.Keeps.{KeepsBook, HasRoom};
 
     ghost Value = { BookHistory W W.V };
 
@@ -75,7 +77,8 @@ impl<W: AsyncWork> Model for BookState<W> {
         (map arc_value s.works.items) s.stages.items s.book.items };
 
     ghost invariant = { λ s. KeepsBook W.answers (book_history s.book.register s.callers s.rows.items
-        s.events.items (map arc_value s.works.items) s.stages.items s.book.items) };
+        s.events.items (map arc_value s.works.items) s.stages.items s.book.items)
+        × HasRoom (length s.rows.items) (vec_capacity s.events) };
 }
 
 impl<W: AsyncWork> Keyed for BookState<W> {
@@ -112,12 +115,10 @@ impl<W: AsyncWork> BookState<W> {
         let Ok(row) = new_row(self.alloc, caller, id, after, place) else {
             return Err(AddError::NoMemory { work });
         };
-        let Ok(()) = make_room(
-            &mut self.rows,
-            &mut self.events,
-            &mut self.works,
-            &mut self.stages,
-        ) else {
+        let Ok(()) = make_room(&mut self.rows, &mut self.works, &mut self.stages) else {
+            return Err(AddError::NoMemory { work });
+        };
+        let Ok(()) = make_event_room(&mut self.events, id + 1) else {
             return Err(AddError::NoMemory { work });
         };
         let Ok(()) = self.links.add(id, after) else {
@@ -132,7 +133,8 @@ impl<W: AsyncWork> BookState<W> {
 
 impl<W: AsyncWork> BookState<W> {
     /// Starts a task. `None` exactly where it may not start: it isn't there, was started, or names a task that has no
-    /// end. After an `Err` the book is as it was.
+    /// end. The memory for its event was taken by its add: after an `Err` there was none for the list of its inputs, and
+    /// the book is as it was.
     pub fn start_in(
         &mut self,
         register: &Register<Outstanding<W, W::V>>,
@@ -151,7 +153,7 @@ impl<W: AsyncWork> BookState<W> {
         let row = &self.rows[task as usize];
         let ins = inputs(self.alloc, &self.stages, row.after.as_slice())?;
         let work = Arc::try_clone(&self.works[task as usize])?;
-        self.events.push(TaskEvent::Started(task))?;
+        self.events.push_reserved(TaskEvent::Started(task));
         set_stage(&mut self.stages, task, Stage::Open);
         let running = Outstanding::Running {
             task,
@@ -167,26 +169,24 @@ impl<W: AsyncWork> BookState<W> {
         }))
     }
 
-    /// Ends a start with a value. After an `Err` the start stays open, and the book is as it was.
+    /// Ends a start with a value. It takes no memory.
     pub fn end_in(
         &mut self,
         register: &Register<Outstanding<W, W::V>>,
         started: Started<W>,
         value: Arc<W::V>,
-    ) -> Result<(), NoMemory>
+    )
         requires register { self.old.register ≡ register.now }
         requires started { started.register ≡ register.now }
         requires answered { W.answers started.work started.ins (arc_value value) }
         ensures key { key_of self.new ≡ key_of self.old }
-        ensures ok { OnOk result (EndsTask self.old started value self.new) }
-        ensures err { OnErr result (self.new ≡ self.old) }
+        ensures ended { EndsTask self.old started value self.new }
     {
         let Started { ticket, task, .. } = started;
-        self.events.push(TaskEvent::Ended(task))?;
         register.redeem(&mut self.book, ticket);
+        self.events.push_reserved(TaskEvent::Ended(task));
         set_stage(&mut self.stages, task, Stage::Over(value));
         self.links.end(task);
-        Ok(())
     }
 }
 
@@ -208,6 +208,40 @@ impl<W: AsyncWork> BookState<W> {
     {
         let _ = caller;
         register.redeem(&mut self.book, ticket);
+    }
+
+    /// Looks into the book with a pass, which has then seen all rows.
+    #[tactic(auto, using(crate::proofs::Keys::ticket_of, crate::proofs::Keys::held_by))]
+    pub(crate) fn look(&mut self, register: &Register<Outstanding<W, W::V>>, pass: &mut Pass<W>)
+        requires register { self.old.register ≡ register.now }
+        requires pass { IsTicketOf register.now pass.old.ticket }
+        ensures book { self.new ≡ with_items self.old self.new.items }
+        ensures ticket { IsTicketOf register.now pass.new.ticket }
+        ensures looked { HasLooked self.old.rows pass.old pass.new }
+    {
+        let Some(ticket) = pass.ticket.take() else {
+            unreachable!()
+        };
+        pass.ticket = Some(self.look_for(register, ticket, pass.caller));
+    }
+
+    // Looks into the book for the caller with this ticket, and gives its next ticket.
+    fn look_for(
+        &mut self,
+        register: &Register<Outstanding<W, W::V>>,
+        ticket: Ticket<Outstanding<W, W::V>>,
+        caller: u32,
+    ) -> Ticket<Outstanding<W, W::V>>
+        requires register { self.old.register ≡ register.now }
+        requires ticket { (ticket.register ≡ register.now) × IsPassFor caller ticket.item }
+        ensures book { self.new ≡ with_items self.old self.new.items }
+        ensures ticket { (result.register ≡ register.now) × IsPassFor caller result.item }
+        ensures later { ticket.number < result.number }
+        ensures seen { HasSeen self.old.rows caller (rows_seen ticket.item) }
+        ensures all { rows_seen result.item ≡ self.old.rows }
+    {
+        self.close_pass(register, ticket, caller);
+        self.open_pass(register, caller)
     }
 
     /// Adds a task for the caller with this ticket, which has seen all rows then, and gives its next ticket.
@@ -310,8 +344,8 @@ impl<W: AsyncWork> BookState<W> {
     pub fn first_open(&self) -> Option<u32>
         ensures none { IfNone result ((t : ℕ) → t < length self.now.stages
             → is_over self.now.stages t ≡ true) }
-        ensures some { IfSome result (λ t. (t < length self.now.stages)
-            × (is_over self.now.stages t ≡ false)) }
+        ensures some { IfSome result (HasNoEnd self.now) }
+        ensures history { IsHistory self.now.callers self.now.rows self.now.events }
     {
         first_open(&self.stages)
     }
@@ -386,22 +420,31 @@ fn new_row(
     })
 }
 
-// Takes the memory for one task more: its row, its start and its end, its work and its value.
-fn make_room<A, B, C, D>(
+// Takes the memory for one task more: its row, its work and its value.
+fn make_room<A, B, C>(
     rows: &mut Vec<A>,
-    events: &mut Vec<B>,
-    works: &mut Vec<C>,
-    stages: &mut Vec<D>,
+    works: &mut Vec<B>,
+    stages: &mut Vec<C>,
 ) -> Result<(), NoMemory>
-    ensures same { (rows.new.items ≡ rows.old.items) × (events.new.items ≡ events.old.items)
-        × (works.new.items ≡ works.old.items) × (stages.new.items ≡ stages.old.items) }
+    ensures same { (rows.new.items ≡ rows.old.items) × (works.new.items ≡ works.old.items)
+        × (stages.new.items ≡ stages.old.items) }
     ensures rows { OnOk result (vec_len rows.new < vec_capacity rows.new) }
     ensures works { OnOk result (vec_len works.new < vec_capacity works.new) }
     ensures stages { OnOk result (vec_len stages.new < vec_capacity stages.new) }
 {
     rows.reserve(1)?;
-    events.reserve(2)?;
     works.reserve(1)?;
     stages.reserve(1)?;
+    Ok(())
+}
+
+// Takes the memory for the start and the end of each of so many tasks.
+fn make_event_room(events: &mut Vec<TaskEvent>, tasks: u32) -> Result<(), NoMemory>
+    ensures same { events.new.items ≡ events.old.items }
+    ensures more { vec_capacity events.old ≤ vec_capacity events.new }
+    ensures room { OnOk result (HasRoom tasks (vec_capacity events.new)) }
+{
+    let wanted = 2 * tasks as usize;
+    events.reserve(wanted.saturating_sub(events.len()))?;
     Ok(())
 }

@@ -1,5 +1,5 @@
 -- What holds of a book of tasks whenever its lock is free.
-use Rattle.std.specs.Prelude.{◌≡◌, ℕ, ◌≤◌, List, ◌++◌, length, Option, Some, None, slice_get, map, IsSomeAnd}
+use Rattle.std.specs.Prelude.{◌≡◌, ℕ, ◌+◌, ◌*◌, ◌≤◌, List, ◌++◌, length, Option, Some, None, slice_get, map, sum_by, IsSomeAnd}
 use Rattle.std.specs.Arc.{arc_value}
 use Rattle.async_tasks.specs.declared.history.AddRow.{AddRow}
 use Rattle.async_tasks.specs.declared.history.TaskEvent.{TaskEvent}
@@ -18,6 +18,12 @@ StageFits events t (Some Waiting) = (times_started events t ≡ 0) × (times_end
 StageFits events t (Some Open) = (times_started events t ≡ 1) × (times_ended events t ≡ 0)
 StageFits events t (Some (Over value)) = (times_started events t ≡ 1) × (times_ended events t ≡ 1)
 
+-- how many events of a task are still to come
+abbrev pub events_left : {V : Type 0} → Stage V → ℕ
+events_left Waiting = 2
+events_left Open = 1
+events_left (Over value) = 0
+
 -- What a pass has seen is a prefix of the rows, with all of its caller's. An open start has its task's work, and found the values of the tasks named.
 abbrev pub ItemFits : {W V : Type 0} → BookHistory W V → Outstanding W V → Type 0
 ItemFits book (Pass caller seen) =
@@ -28,15 +34,20 @@ ItemFits book (Running task work ins) =
     × (slice_get book.works task ≡ Some (arc_value work.value))
     × IsSomeAnd (slice_get book.rows task) (λ (row : AddRow). map arc_value ins.value ≡ found (value_at book.stages) row.after)
 
--- The history is right, each task is as far as it says, each value is one that the task's work allows on the values
--- of the tasks named, and what is outstanding fits, each caller and each task once.
+-- The history is right, each task is as far as it says and has the other events to come, each value is one that the task's
+-- work allows on the values of the tasks named, and what is outstanding fits, each caller and each task once.
 pub record KeepsBook {W V : Type 0} (answers : W → List V → V → Type 0) (book : BookHistory W V) : Type 0 where
   pub history : IsHistory book.callers book.rows book.events
   pub row_count : length book.rows ≤ task_limit
   pub work_count : length book.works ≡ length book.rows
   pub stage_count : length book.stages ≡ length book.rows
+  pub event_count : length book.events + sum_by events_left book.stages ≡ 2 * length book.rows
   pub staged : (t : ℕ) → StageFits book.events t (slice_get book.stages t)
   pub inputs : (t : ℕ) (row : AddRow) → slice_get book.rows t ≡ Some row → times_started book.events t ≡ 1 → AllEnded book.events row.after
   pub values : (t : ℕ) (row : AddRow) (work : W) (v : V) → slice_get book.rows t ≡ Some row → slice_get book.works t ≡ Some work → value_at book.stages t ≡ Some v → answers work (found (value_at book.stages) row.after) v
   pub fits : (n : ℕ) (item : Outstanding W V) → slice_get book.items n ≡ Some (Some item) → ItemFits book item
   pub once : (n m : ℕ) (x y : Outstanding W V) → slice_get book.items n ≡ Some (Some x) → slice_get book.items m ≡ Some (Some y) → holder_of x ≡ holder_of y → n ≡ m
+
+-- the memory of the events has room for a start and an end of each task
+abbrev pub HasRoom : ℕ → ℕ → Type 0
+HasRoom tasks capacity = 2 * tasks ≤ capacity
