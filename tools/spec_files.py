@@ -16,7 +16,7 @@ def words(text):
 
 def is_field(text):
     line = text.lstrip("\n").split("\n")[0]
-    return line.startswith("  pub ") and ":" in line
+    return re.match(r"(  |    )pub (?!record |data )", line) is not None and ":" in line
 
 
 def definitions_in(path):

@@ -1,9 +1,18 @@
-//! Books of async tasks: what a book of sums comes to, and what is refused. There is nothing here but tests.
+//! Books of async tasks: what a book of sums comes to, what is refused, and threads that add and step side by side.
 #![tactic(auto)]
 
+mod add_to;
+#[cfg(test)]
+mod alone;
+mod crowds;
+#[cfg(test)]
+mod judged;
 #[cfg(test)]
 mod refusals;
 #[cfg(test)]
 mod sums;
 #[cfg(test)]
-mod work;
+mod two_callers;
+
+pub use add_to::{AddTo, Refused};
+pub use crowds::{Progress, work_together};

@@ -1,6 +1,7 @@
 // What a book refuses.
-use crate::work::{Alone, Refused};
-use async_tasks::Finished;
+use crate::add_to::Refused;
+use crate::alone::{Alone, Outcome};
+use async_tasks::AsyncStep;
 use std::test::Fail;
 
 // Of three sums: after a task that isn't there, and after as many tasks as an add may name.
@@ -20,15 +21,23 @@ fn the_first_task_that_is_not_there_is_named(rt: HostRuntime) -> Result<(), Fail
     Ok(())
 }
 
+// It goes on: the last task is run, and one that is added then.
 #[test]
 fn a_book_with_an_open_task_is_not_finished(rt: HostRuntime) -> Result<(), Fail> {
     let mut alone = Alone::of_three_sums(&rt, rt.alloc())?;
     alone.step(&rt)?;
     alone.step(&rt)?;
-    match alone.finish(&rt, rt.alloc())? {
-        Finished::Done(_) => panic!(rt; "the third task has no end"),
-        Finished::Open(_, _, task) => assert_eq!(rt; task, 2),
-    }
+    let Outcome::Open(mut alone, task) = alone.finish(&rt, rt.alloc())? else {
+        panic!(rt; "the third task has no end")
+    };
+    assert_eq!(rt; task, 2);
+    assert_eq!(rt; alone.step(&rt)?, AsyncStep::Ran(2));
+    assert_eq!(rt; alone.add(&rt, rt.alloc(), 5, &[2]), Ok(3));
+    assert_eq!(rt; alone.step(&rt)?, AsyncStep::Ran(3));
+    let Outcome::Done(run) = alone.finish(&rt, rt.alloc())? else {
+        panic!(rt; "a task has no end")
+    };
+    assert!(rt; run.value(3).is_some_and(|found| **found == 16));
     Ok(())
 }
 

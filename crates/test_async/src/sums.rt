@@ -1,6 +1,8 @@
 // A book of sums by one caller and one worker.
-use crate::work::Alone;
-use async_tasks::{AsyncStep, Finished, TaskEvent};
+use crate::alone::{Alone, Outcome};
+use crate::judged::{printed, verdict_on};
+use async_tasks::{AsyncStep, TaskEvent};
+use legal_run::Verdict;
 use std::test::Fail;
 
 const EVENTS: [TaskEvent; 6] = [
@@ -12,6 +14,15 @@ const EVENTS: [TaskEvent; 6] = [
     TaskEvent::Ended(2),
 ];
 
+const JOURNAL: &str = "flow journal 2
+start 0 source -
+end 0 0,1 plain
+start 1 strong 1
+end 2 2,3 plain
+start 2 strong 1,3,3
+end 4 - plain
+";
+
 // 1 after nothing, 2 after the first, 4 after the first and twice the second.
 #[test]
 fn each_sum_finds_the_values_of_the_tasks_it_names(rt: HostRuntime) -> Result<(), Fail> {
@@ -20,7 +31,7 @@ fn each_sum_finds_the_values_of_the_tasks_it_names(rt: HostRuntime) -> Result<()
         assert_eq!(rt; alone.step(&rt)?, AsyncStep::Ran(task));
     }
     assert_eq!(rt; alone.step(&rt)?, AsyncStep::Empty);
-    let Finished::Done(run) = alone.finish(&rt, rt.alloc())? else {
+    let Outcome::Done(run) = alone.finish(&rt, rt.alloc())? else {
         panic!(rt; "a task has no end")
     };
     for (task, value) in [(0, 1), (1, 3), (2, 11)] {
@@ -30,5 +41,7 @@ fn each_sum_finds_the_values_of_the_tasks_it_names(rt: HostRuntime) -> Result<()
         );
     }
     assert!(rt; run.events.as_slice() == EVENTS.as_slice());
+    assert!(rt; printed(rt.alloc(), &run)?.bytes() == JOURNAL.as_bytes());
+    assert_eq!(rt; verdict_on(rt.alloc(), &run)?, Verdict::Complete);
     Ok(())
 }

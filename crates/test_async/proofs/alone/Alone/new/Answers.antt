@@ -1,5 +1,5 @@
 use Rattle.test_async.proofs.OnePass.{first_pass, first_seat}
-use Rattle.test_async.proofs.work.Alone.new.Goals as goal
+use Rattle.test_async.proofs.alone.Alone.new.Goals as goal
 
 pub invariant_of-result : goal.invariant_of-result
 invariant_of-result c =

@@ -1,63 +1,19 @@
-// Work of sums, and a book for one caller.
+// A book for one caller and one worker.
 ghost use Rattle.std.specs.Prelude.{◌≡◌, ◌≤◌, length};
 ghost use Rattle.std.proofs.Props.{props};
 ghost use Rattle.async_tasks.specs.AsyncBooks.{IsPassOf, IsSeatOf};
 
-use async_tasks::{
-    AddError, AsyncBook, AsyncParts, AsyncSeat, AsyncStep, AsyncWork, Finished, Pass,
-};
-use outside_io::{List, NoMemory};
-use std::alloc::{AllocFailed, Global};
+use crate::add_to::{AddTo, Refused};
+use async_tasks::{AsyncBook, AsyncParts, AsyncRun, AsyncSeat, AsyncStep, Finished, Pass};
+use outside_io::NoMemory;
+use std::alloc::Global;
 use std::sync::{Arc, Wait};
 
-/// A number to which the inputs are added.
+/// What the end of a book with one caller and one worker came to.
 #[derive(Drop)]
-pub struct AddTo {
-    pub number: u64,
-}
-
-impl AsyncWork for AddTo {
-    type V = u64;
-
-    ghost answers = { λ work ins value. Unit {0} };
-
-    fn run(&self, _alloc: Global, ins: &List<Arc<u64>>) -> Result<u64, NoMemory> {
-        let mut sum = self.number;
-        for input in ins {
-            sum = sum.wrapping_add(**input);
-        }
-        Ok(sum)
-    }
-}
-
-/// Why a number was not added.
-#[derive(Clone, Copy, Debug, PartialEq, Eq)]
-pub enum Refused {
-    NoSuch(u32, u32),
-    Full(u32),
-    NoMemory,
-}
-
-impl From<AddError<AddTo>> for Refused {
-    fn from(error: AddError<AddTo>) -> Self {
-        match error {
-            AddError::NoSuch { task, seen, .. } => Refused::NoSuch(task, seen),
-            AddError::Full { seen, .. } => Refused::Full(seen),
-            AddError::NoMemory { .. } => Refused::NoMemory,
-        }
-    }
-}
-
-impl From<NoMemory> for Refused {
-    fn from(_: NoMemory) -> Self {
-        Refused::NoMemory
-    }
-}
-
-impl From<AllocFailed<AddTo>> for Refused {
-    fn from(_: AllocFailed<AddTo>) -> Self {
-        Refused::NoMemory
-    }
+pub enum Outcome {
+    Done(AsyncRun<AddTo>),
+    Open(Alone, u32),
 }
 
 /// A book with one caller and one worker.
@@ -112,12 +68,23 @@ impl Alone {
         self.seat.step(rt, &self.book)
     }
 
-    /// Ends the book.
+    /// Ends the book, or gives it back with the task that has no end.
     #[tactic(auto, using(crate::proofs::OnePass::only_pass))]
-    pub fn finish<R: Wait>(self, rt: &R, alloc: Global) -> Result<Finished<AddTo>, NoMemory> {
-        let Alone { book, pass, .. } = self;
+    pub fn finish<R: Wait>(self, rt: &R, alloc: Global) -> Result<Outcome, NoMemory> {
+        let Alone { book, pass, seat } = self;
         let mut passes = Vec::new(alloc);
         passes.push(pass)?;
-        Ok(book.finish(rt, passes))
+        match book.finish(rt, passes) {
+            Finished::Done(run) => Ok(Outcome::Done(run)),
+            Finished::Open {
+                book,
+                mut passes,
+                task,
+                ..
+            } => {
+                let pass = passes.remove(0);
+                Ok(Outcome::Open(Alone { book, pass, seat }, task))
+            }
+        }
     }
 }

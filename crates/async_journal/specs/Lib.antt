@@ -1,0 +1,3 @@
+pub mod RunNets
+pub mod RunJournals
+pub mod inside

@@ -1,0 +1,32 @@
+-- The net of a run of async tasks.
+use Rattle.std.specs.Prelude.{ℕ, false, List, [], ◌∷◌, ◌++◌, length, map, replicate}
+use Rattle.std.specs.List.{flat_map}
+use Rattle.task_graph.specs.NetRows.{NetRows}
+use Rattle.task_graph.specs.NetBuilder.{empty_net}
+use Rattle.task_graph.specs.declared.net.TaskRow.{TaskRow}
+use Rattle.task_graph.specs.declared.net.EdgeRow.{EdgeRow}
+use Rattle.task_graph.specs.declared.net.Shape.TheVariants.{Plain}
+use Rattle.async_tasks.specs.declared.history.AddRow.{AddRow}
+
+-- a plain task without semaphores
+abbrev pub plain_task : TaskRow
+plain_task = record { shape = Plain; takes = []; puts = [] }
+
+-- the edges from these tasks to another
+abbrev pub edges_into : ℕ → List ℕ → List EdgeRow
+edges_into task before = map (λ from. record { from = from; to = task; start = false }) before
+
+-- the edges into the task of an add, in the order in which it names the tasks that they leave
+abbrev pub edges_of : AddRow → List EdgeRow
+edges_of row = edges_into row.id row.after
+
+-- a net with so many plain tasks more, and with these edges more
+abbrev pub with_plain_tasks : NetRows → ℕ → NetRows
+with_plain_tasks net count = record { tasks = net.tasks ++ replicate count plain_task; edges = net.edges; sems = net.sems }
+
+abbrev pub with_edges : NetRows → List EdgeRow → NetRows
+with_edges net edges = record { tasks = net.tasks; edges = net.edges ++ edges; sems = net.sems }
+
+-- the net of adds: a plain task for each, and the edges of all
+abbrev pub run_net : List AddRow → NetRows
+run_net adds = with_edges (with_plain_tasks empty_net (length adds)) (flat_map edges_of adds)

@@ -1,0 +1,2 @@
+-- Internal: at which index each task was started and ended.
+pub mod Tables

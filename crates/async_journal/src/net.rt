@@ -1,0 +1,52 @@
+// The net of a run of async tasks.
+ghost use Rattle.std.specs.Prelude.{◌≡◌, [], false, length, map, IfOk, OnOk};
+ghost use Rattle.std.specs.List.{flat_map};
+ghost use Rattle.async_journal.specs.RunNets.{edges_into, edges_of, run_net, with_edges, with_plain_tasks};
+
+use async_tasks::AddRow;
+use outside_io::List;
+use std::alloc::Global;
+use task_graph::{BuildError, Net, NetBuilder, Shape};
+
+/// The net of these adds: a plain task for each, and an edge from each task that it names, in the order named. An
+/// `Err` is that of the builder: of the adds of a finished run it is returned only where an allocation fails.
+pub fn net_of_adds(alloc: Global, adds: &[AddRow]) -> Result<Net, BuildError>
+    ensures { IfOk result (λ net. net ≡ run_net adds.now) }
+{
+    let mut builder = NetBuilder::new(alloc);
+    add_tasks(alloc, &mut builder, adds.len())?;
+    add_edges(&mut builder, adds)?;
+    Ok(builder.finish())
+}
+
+// Adds so many plain tasks to a net without semaphores.
+#[tactic(auto, using(crate::proofs::Building::no_tasks, crate::proofs::Building::one_task))]
+fn add_tasks(alloc: Global, builder: &mut NetBuilder, count: usize) -> Result<(), BuildError>
+    requires { builder.old.sems ≡ [] }
+    ensures { OnOk result (builder.new ≡ with_plain_tasks builder.old count) }
+{
+    for _number in 0..count {
+        builder.task(Shape::Plain, List::new(alloc), List::new(alloc))?;
+    }
+    Ok(())
+}
+
+// Adds the edges of all adds.
+fn add_edges(builder: &mut NetBuilder, adds: &[AddRow]) -> Result<(), BuildError>
+    ensures { OnOk result (builder.new ≡ with_edges builder.old (flat_map edges_of adds.now)) }
+{
+    for row in adds {
+        add_edges_into(builder, row.id, row.after.as_slice())?;
+    }
+    Ok(())
+}
+
+// Adds an edge from each of these tasks to another.
+fn add_edges_into(builder: &mut NetBuilder, task: u32, before: &[u32]) -> Result<(), BuildError>
+    ensures { OnOk result (builder.new ≡ with_edges builder.old (edges_into task before.now)) }
+{
+    for from in before {
+        builder.edge(*from, task, false)?;
+    }
+    Ok(())
+}

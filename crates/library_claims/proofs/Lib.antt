@@ -1,0 +1,3 @@
+pub mod WorkedHistories
+pub mod WorkedAsyncBooks
+pub mod WorkedAsyncPasses

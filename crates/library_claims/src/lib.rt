@@ -1,0 +1,9 @@
+//! Claims on the definitions of libraries that `flow` doesn't use, computed on small examples.
+//!
+//! As in the crate `claims`, each claim is a lemma in `proofs/` that states what a definition comes to on one example, and
+//! the prover computes it. There is no code.
+//!
+//! - `WorkedHistories`: which histories of async tasks are right, each wrong one breaking one line of the definitions;
+//! - `WorkedAsyncBooks`: what an add, a start and an end of a book of tasks change, what may be started, and what is refused;
+//! - `WorkedAsyncPasses`: what passes, seats and tickets of such books say, and what finishing one comes to.
+#![tactic(auto)]
