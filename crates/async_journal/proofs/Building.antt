@@ -1,14 +1,10 @@
 -- A net to which plain tasks are added one by one.
-use Rattle.std.proofs.Common.{◌≡◌, ◌∙◌, ℕ, ◌+◌, ◌<◌, List, [], ◌∷◌, ◌++◌, length, map, take, get_or, refl, sym, ap, false}
-use Rattle.std.proofs.lemmas.List.{append-nil, append_assoc, map_push, replicate_more, take_more}
+use Rattle.std.proofs.Common.{◌≡◌, ◌∙◌, ℕ, ◌+◌, List, [], ◌∷◌, ◌++◌, sym, ap}
+use Rattle.std.proofs.lemmas.List.{append-nil, append_assoc, replicate_more}
 use Rattle.std.specs.Prelude.{replicate}
-use Rattle.std.specs.List.{flat_map}
 use Rattle.task_graph.specs.NetRows.{NetRows}
-use Rattle.task_graph.specs.NetBuilder.{with_task, with_edge, settled}
-use Rattle.task_graph.specs.declared.net.TaskRow.{TaskRow}
-use Rattle.task_graph.specs.declared.net.EdgeRow.{EdgeRow}
-use Rattle.async_tasks.specs.declared.history.AddRow.{AddRow}
-use Rattle.async_journal.specs.RunNets.{plain_task, edges_into, edges_of, with_plain_tasks, with_edges}
+use Rattle.task_graph.specs.NetBuilder.{with_task, settled}
+use Rattle.async_journal.specs.RunNets.{plain_task, with_plain_tasks}
 
 -- nothing is added yet
 pub no_tasks : (net : NetRows) → net ≡ with_plain_tasks net 0

@@ -1,6 +1,6 @@
 -- Tables of the indices at which tasks were started, or ended.
 use Rattle.std.proofs.Common.{◌≡◌, ◌≢◌, ◌⊎◌, inl, inr, ◌∙◌, ℕ, zero, suc, ◌+◌, ◌<◌, ◌≤◌, Bool, true, false, cond, eqb, ltb, List, [], ◌∷◌, ◌++◌, length, map, take, set, length-set, Option, Some, None, refl, sym, ap, subst, arith}
-use Rattle.std.specs.Prelude.{replicate, slice_get, unwrap_or}
+use Rattle.std.specs.Prelude.{replicate, slice_get, unwrap_or, Result, Ok, Err, IfOk}
 use Rattle.std.specs.Option.{option_or}
 use Rattle.std.specs.List.{position, position_from}
 use Rattle.std.proofs.lemmas.Bool.{cases_eq, cases_lt}
@@ -184,9 +184,10 @@ place_by is_event adds events table t h = by_order (cases_lt t (length adds))
         ap place_at (get_past_end table t (omega arith)) ∙ ap (λ b. cond b (unwrap_or (position (is_event t) events) 0) 0) (sym more)
 
 -- the journal by the tables is that of the events
-pub journal_by_tables : (net : NetRows) (adds : List AddRow) (events : List TaskEvent) (starts ends starts' ends' : List (Option ℕ)) (journal : List Entry) → journal ≡ map (entry_by net adds starts' ends') events → starts' ≡ starts → ends' ≡ ends →
-    IsTableOf is_start_of (length adds) events starts → IsTableOf is_end_of (length adds) events ends → journal ≡ run_journal net adds events
-journal_by_tables net adds events starts ends starts' ends' journal is same_starts same_ends has_starts has_ends =
+pub journal_by_tables : {E : Type 0} (net : NetRows) (adds : List AddRow) (events : List TaskEvent) (starts ends starts' ends' : List (Option ℕ)) (result : Result (List Entry) E) → IfOk result (λ journal. journal ≡ map (entry_by net adds starts' ends') events) → starts' ≡ starts → ends' ≡ ends →
+    IsTableOf is_start_of (length adds) events starts → IsTableOf is_end_of (length adds) events ends → IfOk result (λ journal. journal ≡ run_journal net adds events)
+journal_by_tables net adds events starts ends starts' ends' (Err e) is same_starts same_ends has_starts has_ends = tt
+journal_by_tables net adds events starts ends starts' ends' (Ok journal) is same_starts same_ends has_starts has_ends =
     is ∙ ap (λ table. map (entry_by net adds table ends') events) same_starts ∙ ap (λ table. map (entry_by net adds starts table) events) same_ends
     ∙ map_same (entry_by net adds starts ends) (entry_of net adds events) events each
   where

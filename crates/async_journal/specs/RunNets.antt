@@ -1,5 +1,5 @@
 -- The net of a run of async tasks.
-use Rattle.std.specs.Prelude.{ℕ, false, List, [], ◌∷◌, ◌++◌, length, map, replicate}
+use Rattle.std.specs.Prelude.{ℕ, false, List, [], ◌++◌, length, map, replicate}
 use Rattle.std.specs.List.{flat_map}
 use Rattle.task_graph.specs.NetRows.{NetRows}
 use Rattle.task_graph.specs.NetBuilder.{empty_net}

@@ -13,7 +13,6 @@ use std::alloc::Global;
 use task_graph::Net;
 
 /// The journal of these events, on the net of these adds: an entry for each, at its index.
-#[tactic(auto, using(crate::proofs::Tables::journal_by_tables))]
 pub fn journal_of_events(
     alloc: Global,
     net: &Net,

@@ -8,7 +8,7 @@ use outside_io::NoMemory;
 use std::alloc::Global;
 
 /// Of each task the index of its first start.
-#[tactic(auto, using(crate::proofs::Tables::no_events, crate::proofs::Tables::start_next, crate::proofs::Tables::all_events))]
+#[tactic(auto, using(crate::proofs::Tables::no_events, crate::proofs::Tables::all_events))]
 pub fn starts_of(
     alloc: Global,
     tasks: usize,
@@ -24,7 +24,7 @@ pub fn starts_of(
 }
 
 /// Of each task the index of its first end.
-#[tactic(auto, using(crate::proofs::Tables::no_events, crate::proofs::Tables::end_next, crate::proofs::Tables::all_events))]
+#[tactic(auto, using(crate::proofs::Tables::no_events, crate::proofs::Tables::all_events))]
 pub fn ends_of(
     alloc: Global,
     tasks: usize,
