@@ -1,5 +1,5 @@
 -- What passes, seats and tickets of books of async tasks say, and what finishing such a book comes to.
-use Rattle.std.proofs.Common.{◌≡◌, ◌≢◌, ℕ, zero, suc, ◌+◌, ◌<◌, List, [], ◌∷◌, ◌++◌, Bool, true, false, Option, Some, None, length, map, refl, sym, ap, ◌∙◌, subst, arith}
+use Rattle.std.proofs.Common.{◌≡◌, ◌≢◌, ℕ, zero, suc, ◌+◌, ◌<◌, List, [], ◌∷◌, ◌++◌, true, Some, None, length, map, refl, sym, ap, ◌∙◌, subst, arith}
 use Rattle.std.specs.Prelude.{slice_get, is_some}
 use Rattle.std.specs.Arc.{arc_value}
 use Rattle.std.specs.declared.alloc.Global.{Global}
@@ -7,13 +7,13 @@ use Rattle.std.specs.declared.sync.Arc.{Arc}
 use Rattle.std.specs.declared.vec.Vec.{Vec}
 use Rattle.std.specs.declared.snapshot.Snapshot.{Snapshot}
 use Rattle.atomic_table.specs.Seated.{TableId}
-use Rattle.tickets.specs.Books.{TicketState, ticket_state}
+use Rattle.tickets.specs.Books.{ticket_state}
 use Rattle.ready_deques.specs.declared.ready.Ready.{Ready}
 use Rattle.ready_deques.specs.declared.tagged.Tagged.{Ghosts}
 use Rattle.ready_deques.specs.Lists.{OwnerState}
 use Rattle.async_tasks.specs.declared.history.AddRow.{AddRow}
 use Rattle.async_tasks.specs.declared.history.TaskEvent.TheVariants.{Started, Ended}
-use Rattle.async_tasks.specs.declared.stage.Stage.TheVariants.{Waiting, Open, Over}
+use Rattle.async_tasks.specs.declared.stage.Stage.TheVariants.{Open, Over}
 use Rattle.async_tasks.specs.declared.run.AsyncRun.{AsyncRun}
 use Rattle.async_tasks.specs.declared.finish.Finished.TheVariants.{Done, Open as Unfinished}
 use Rattle.async_tasks.specs.declared.outstanding.Outstanding.{Outstanding}
@@ -35,6 +35,11 @@ abbrev named_in_all : List (ℕ × List ℕ) → ℕ
 named_in_all [] = 0
 named_in_all (kept ∷ more) = length kept.1 + named_in_all more
 
+-- the number in the first of some rows
+abbrev ids_in : List AddRow → ℕ
+ids_in [] = 0
+ids_in (row ∷ rows) = row.id
+
 most_callers : caller_limit ≡ 64
 most_callers = refl
 
@@ -49,7 +54,7 @@ prefix_seen : HasSeen three 1 two × ¬ HasSeen three 0 two
 prefix_seen = (((add 0 2 (0 ∷ 1 ∷ []) 2 ∷ [], refl), refl), λ h. let e = ap length h.1 in absurd (omega (arith, e)))
 
 no_prefix : ¬ HasSeen two 0 (add 0 1 [] 0 ∷ [])
-no_prefix h = let e = h.0.1 in absurd (cc)
+no_prefix h = absurd (omega (arith, ap ids_in h.0.1))
 
 -- A pass of caller 1 that has seen two rows, a pass that has seen three, and a start of task 4.
 module _ (r s : TableId) (other : s ≢ r) (fewer more : Snapshot (Vec AddRow Global)) (has_two : fewer.value.items ≡ two) (has_three : more.value.items ≡ three) (work : Snapshot (Arc ℕ Global)) (values : Snapshot (List (Arc ℕ Global))) (its_work : arc_value work.value ≡ 5) (its_values : map arc_value values.value ≡ 6 ∷ []) where
@@ -90,7 +95,7 @@ module _ (r s : TableId) (other : s ≢ r) (fewer more : Snapshot (Vec AddRow Gl
   looks_no_later h = let e = h.later in absurd (omega arith)
 
   looks_as_another : ¬ LooksAgain old (pass_state 0 (Some (ticket_state r 5 (Pass 0 more))))
-  looks_as_another h = let e : 0 ≡ 1 = h.caller in absurd (omega arith)
+  looks_as_another h = absurd (omega (arith, h.caller))
 
   looks_at_less : ¬ LooksAgain new (pass_state 1 (Some (ticket_state r 6 pass)))
   looks_at_less h = let e = ap length (sym has_two ∙ h.longer.1 ∙ ap (λ rows. rows ++ h.longer.0) has_three) in absurd (omega (arith, e))
@@ -123,18 +128,15 @@ module _ (r s : TableId) (other : s ≢ r) (fewer more : Snapshot (Vec AddRow Gl
   all_passes = record { count = refl; each = each_one }
     where
       each_one : (c : ℕ) (p : PassState ℕ ℕ) → slice_get (pass_state 0 (Some (ticket_state r 3 (Pass 0 fewer))) ∷ old ∷ []) c ≡ Some p → IsPassOf (async_book_state r 2 s) p × (p.caller ≡ c)
-      each_one zero p at = subst (λ (q : PassState ℕ ℕ). IsPassOf (async_book_state r 2 s) q × (q.caller ≡ 0)) (some_of at) (record { ticket = refl; caller = omega arith }, refl)
-      each_one (suc zero) p at = subst (λ (q : PassState ℕ ℕ). IsPassOf (async_book_state r 2 s) q × (q.caller ≡ 1)) (some_of at) (pass_of_the_book, refl)
+      each_one zero p at = subst (λ (q : PassState ℕ ℕ). IsPassOf (async_book_state r 2 s) q × (q.caller ≡ 0)) (some_same at) (record { ticket = refl; caller = omega arith }, refl)
+      each_one (suc zero) p at = subst (λ (q : PassState ℕ ℕ). IsPassOf (async_book_state r 2 s) q × (q.caller ≡ 1)) (some_same at) (pass_of_the_book, refl)
       each_one (suc (suc c)) p at = absurd (cc)
 
-      some_of : {x y : PassState ℕ ℕ} → Some x ≡ Some y → x ≡ y
-      some_of e = cc
-
   too_few_passes : ¬ ArePassesOf book (old ∷ [])
-  too_few_passes h = let e : 1 ≡ 2 = h.count in absurd (omega arith)
+  too_few_passes h = absurd (omega (arith, h.count))
 
   at_another_place : ¬ ArePassesOf book (old ∷ old ∷ []) × ¬ AreFirstPasses r (old ∷ [])
-  at_another_place = ((λ h. let e : 1 ≡ 0 = (h.each 0 old refl).1 in absurd (omega arith)), (λ h. let e : 1 ≡ 0 = (h 0 old refl).1 in absurd (omega arith)))
+  at_another_place = ((λ h. absurd (omega (arith, (h.each 0 old refl).1))), (λ h. absurd (omega (arith, (h 0 old refl).1))))
 
   -- a seat is of the book's list
   seats : (owner : OwnerState) → owner.tag ≡ [] → owner.counts ≡ s → IsSeatOf book owner × IsOwnerAt s owner
@@ -167,8 +169,8 @@ module _ (r s : TableId) (other : s ≢ r) (fewer more : Snapshot (Vec AddRow Gl
   not_fresh : ¬ IsFreshPass found_book 1 (ticket_state s 1 (Pass 1 more)) × ¬ IsFreshPass found_book 1 (ticket_state r 2 (Pass 1 more)) × ¬ IsFreshPass found_book 0 (ticket_state r 1 (Pass 1 more)) × ¬ IsFreshPass found_book 1 (ticket_state r 1 pass)
   not_fresh = (
     (λ h. other h.register),
-    (λ h. let e : 2 ≡ 1 = h.number in absurd (omega arith)),
-    (λ h. let e : 1 ≡ 0 = h.caller_is in absurd (omega arith)),
+    (λ h. absurd (omega (arith, h.number))),
+    (λ h. absurd (omega (arith, h.caller_is))),
     (λ h. let e = ap length (sym has_two ∙ h.all) in absurd (omega (arith, e))),
   )
 
@@ -256,29 +258,29 @@ module _ (answers : ℕ → List ℕ → ℕ → Type 0) (work a : Arc ℕ Globa
       has_answer (suc t) row w v at_row at_work at_value = absurd (cc)
 
   unfinished : ¬ IsAsyncRun answers 1 (record { adds = add 0 0 [] 0 ∷ []; events = Started 0 ∷ []; works = work ∷ []; stages = Open ∷ [] })
-  unfinished h = let e : 0 ≡ 1 = (h.complete 0 (omega arith)).1 in absurd (omega arith)
+  unfinished h = absurd (omega (arith, (h.complete 0 (omega arith)).1))
 
   wrong_history : ¬ IsAsyncRun answers 0 run
   wrong_history h = let e = h.history.each_row.0.caller in absurd (omega arith)
 
   without_works : ¬ IsAsyncRun answers 1 (record { adds = run.adds; events = run.events; works = []; stages = run.stages })
-  without_works h = let e : 0 ≡ 1 = h.work_count in absurd (omega arith)
+  without_works h = absurd (omega (arith, h.work_count))
 
   with_a_value_more : ¬ IsAsyncRun answers 1 (record { adds = run.adds; events = run.events; works = run.works; stages = Over a ∷ Over a ∷ [] })
-  with_a_value_more h = let e : 2 ≡ 1 = h.value_count in absurd (omega arith)
+  with_a_value_more h = absurd (omega (arith, h.value_count))
 
   without_its_value : ¬ IsAsyncRun answers 1 (record { adds = run.adds; events = run.events; works = run.works; stages = Open ∷ [] })
-  without_its_value h = let e : false ≡ true = h.each_value 0 (omega arith) in absurd (cc)
+  without_its_value h = let e = h.each_value 0 (omega arith) in absurd (cc)
 
   with_another_value : (b : Arc ℕ Global) → ¬ answers (arc_value work) [] (arc_value b) → ¬ IsAsyncRun answers 1 (record { adds = run.adds; events = run.events; works = run.works; stages = Over b ∷ [] })
   with_another_value b wrong h = wrong (h.values 0 (add 0 0 [] 0) (arc_value work) (arc_value b) refl refl refl)
 
   -- a book is finished with such a run, of which each caller's pass has kept its adds, and no other adds
   done_without_passes : (r : TableId) → ¬ IsFinished {W = ℕ} {V = ℕ} answers (async_book_state r 1 r) [] (Done run)
-  done_without_passes r h = let e : 1 ≡ 0 = h.counted in absurd (omega arith)
+  done_without_passes r h = absurd (omega (arith, h.counted))
 
   done_with_the_pass : (r : TableId) (seen_one : Snapshot (Vec AddRow Global)) → seen_one.value.items ≡ run.adds → IsFinished answers (async_book_state r 1 r) (pass_state 0 (Some (ticket_state r 3 (Pass 0 seen_one))) ∷ []) (Done run)
-  done_with_the_pass r seen_one has = record { is_run = one_run; kept_all = kept_one; counted = sym (ap (λ rows. length (kept_of 0 rows)) has) }
+  done_with_the_pass r seen_one has = record { is_run = one_run; kept_all = kept_one; counted = let e = ap (λ rows. length (kept_of 0 rows)) has in omega (arith, e) }
     where
       kept_one : (c : ℕ) (p : PassState ℕ ℕ) → slice_get (pass_state 0 (Some (ticket_state r 3 (Pass 0 seen_one))) ∷ []) c ≡ Some p → kept_of c run.adds ≡ kept p
       kept_one zero p at = ap (kept_of 0) (sym has) ∙ ap kept (some_same at)
@@ -290,4 +292,3 @@ module _ (answers : ℕ → List ℕ → ℕ → Type 0) (work a : Arc ℕ Globa
 -- the table of the count word of a list
 counts_of_a_list : {G : Ghosts ℕ} (ready : Ready ℕ G) (r : TableId) → ready.counter.table.shared.table_id ≡ r → counts_of ready ≡ r
 counts_of_a_list ready r same = same
-
