@@ -15,6 +15,7 @@ mod bad_graphs;
 mod calls;
 #[cfg(test)]
 mod check_calls;
+#[cfg(test)]
 mod count_calls;
 #[cfg(test)]
 mod dice;
