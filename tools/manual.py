@@ -131,10 +131,12 @@ def written(path):
 
 
 def differences():
-    """What doesn't agree, a sentence each."""
-    for path in REGIONS:
-        if path.read_text() != written(path):
-            yield f"{called(path)} isn't what tools/manual.py --write makes of {called(FORMATS)}"
+    """What doesn't agree, a sentence each: the tables with the program, and if they do, the regions with the tables."""
+    found = list(table_differences())
+    yield from found or region_differences()
+
+
+def table_differences():
     if not defined_commands() or defined_commands() != documented_commands():
         yield f"{called(FORMATS)} has other commands than {called(REQUESTS)}"
     if not defined_operations() or defined_operations() != documented_operations():
@@ -145,6 +147,16 @@ def differences():
         wanted = (numbers.get(f"GREATEST_{name}"), numbers.get(f"DEFAULT_{name}", 1))
         if option.is_number and (option.most, int(option.default.replace(",", ""))) != wanted:
             yield f"{called(FORMATS)} has another range of --{option.name} than {called(NUMBERS)}"
+    used = {name for command in commands() for name in command.options}
+    for option in options():
+        if option.name not in used:
+            yield f"{called(FORMATS)} has the option --{option.name}, which no command has"
+
+
+def region_differences():
+    for path in REGIONS:
+        if path.read_text() != written(path):
+            yield f"{called(path)} isn't what tools/manual.py --write makes of {called(FORMATS)}"
 
 
 def called(path):
