@@ -1,1 +1,3 @@
+mod ManyPasses
 mod OnePass
+mod SumCrossing

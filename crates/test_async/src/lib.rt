@@ -15,4 +15,4 @@ mod sums;
 mod two_callers;
 
 pub use add_to::{AddTo, Refused};
-pub use crowds::{Progress, work_together};
+pub use crowds::{Crowd, Side, work_together};

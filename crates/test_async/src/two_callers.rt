@@ -1,6 +1,10 @@
 // Two callers that add 1,000 tasks each beside two workers.
+ghost use Rattle.std.specs.Prelude.{All, IfSome};
+ghost use Rattle.async_tasks.specs.AsyncBooks.{AsyncBookState};
+ghost use Rattle.test_async.specs.Sides.{IsSideOf};
+
 use crate::add_to::AddTo;
-use crate::crowds::{Progress, work_together};
+use crate::crowds::{Crowd, Side, work_together};
 use crate::judged::verdict_on;
 use async_tasks::{AsyncBook, AsyncParts, AsyncRun, Finished};
 use legal_run::Verdict;
@@ -19,15 +23,31 @@ fn run_of_two_callers<R: Threads + Wait + Sync>(
 ) -> Result<Option<AsyncRun<AddTo>>, Fail> {
     let AsyncParts {
         book,
-        mut seats,
-        mut passes,
+        seats,
+        passes,
     } = AsyncBook::new(alloc, 2, 2)?;
-    let progress = Progress::new(2, TASKS);
-    work_together(rt, alloc, &book, &progress, &mut passes, &mut seats);
+    let crowd = Crowd::new(alloc, book, 2, TASKS);
+    let mut sides = Vec::with_capacity(alloc, 2)?;
+    sides.push_reserved(Side::Callers(passes));
+    sides.push_reserved(Side::Workers(seats));
+    work_together(rt, &crowd, sides.as_mut_slice());
+    let Some(Side::Callers(passes)) = first_of(sides) else {
+        return Ok(None);
+    };
+    let Crowd { book, .. } = crowd;
     match book.finish(rt, passes) {
         Finished::Done(run) => Ok(Some(run)),
         Finished::Open { .. } => Ok(None),
     }
+}
+
+// The first of two sides.
+fn first_of(mut sides: Vec<Side>) -> Option<Side>
+    ensures { (book : AsyncBookState) → All (IsSideOf book) sides.items
+        → IfSome result (IsSideOf book) }
+{
+    let _workers = sides.pop();
+    sides.pop()
 }
 
 // Whether each task has the value of its place among its caller's: 1, 2 and so on.
