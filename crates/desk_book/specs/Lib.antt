@@ -1,0 +1,12 @@
+pub mod Histories
+pub mod Books
+pub mod Taking
+pub mod Changes
+pub mod Passes
+pub mod Asks
+pub mod Answers
+pub mod Rounds
+pub mod States
+pub mod Desks
+pub mod Finishes
+pub mod inside
