@@ -1,0 +1,3 @@
+pub mod TickCrossing
+mod TwoPasses
+pub mod ManyPasses
