@@ -83,6 +83,10 @@ ERRORS = [
     (graph(task("a", "input"), task("a", "input")), ['another task before it has the name "a"']),
     (graph(task("a", "pass", "a")), ["none can start", "waits for itself: a -> a"]),
 ]
+# A file with a number, and what flow-lint says of it: the first numbers are JSON, the others too large for it.
+NUMBER_FILE = '{{"tasks": [{{"name": "a", "op": "head", "n": {}}}]}}'
+OTHER_NUMBERS = ["1" * 309, "-" + "1" * 309, "0." + "1" * 5_000, "1" * 5_000 + "e-5000", "1e-" + "1" * 5_000]
+TOO_LARGE = ["9" * 309, "1" * 310, "-" + "1" * 310, "1" * 5_000, "-" + "1" * 5_000, "1e" + "1" * 5_000]
 WARNINGS = [
     (graph(READ, task("a", "sort")), []),
     (graph(READ, task("a", "sort", "c"), task("b", "count", "c"), task("c", "pass")),
@@ -122,6 +126,12 @@ class Lint(unittest.TestCase):
     def test_errors_and_warnings(self):
         self.assertTrue(all("error: " in line for text, _ in ERRORS[:-1] for line in lint(text)))
         self.assertTrue(all("warning: " in line for text, _ in WARNINGS for line in lint(text)))
+
+    def test_long_numbers(self):
+        for numbers, part in ((OTHER_NUMBERS, "and has to be a whole number"), (TOO_LARGE, ", which is too large")):
+            for number in numbers:
+                found = lint(NUMBER_FILE.format(number))
+                self.assertEqual([part in line and len(line) < 160 for line in found], [True], found)
 
     def test_examples(self):
         """Of each example it says what lint.txt says, or nothing."""
@@ -199,7 +209,7 @@ class Trace(unittest.TestCase):
     def test_refused(self):
         for text in ("", "flow journal 2", "flow journal 3\n", "flow journal 2\nstart 5 source -\n",
                      "flow journal 2\nend 0 - plain\n", "flow journal 2\nstart 0 source\n",
-                     "## round 1\nflow journal 2\n"):
+                     "## round 1\nflow journal 2\n", f"flow journal 2\nstart {'1' * 5_000} source -\n"):
             with self.assertRaises(UnreadableFile, msg=text):
                 self.journal(text, 2)
 

@@ -6,7 +6,8 @@ from dataclasses import dataclass
 from .plans import UnreadableFile, text_of
 
 HEADS = ("flow journal 1", "flow journal 2")
-NUMBER = r"(?:0|[1-9][0-9]*)"
+# No more digits than a number of 64 bits has.
+NUMBER = r"(?:0|[1-9][0-9]{0,19})"
 CAUSE = rf"source|strong|weak:{NUMBER}"
 PART = rf"(?:{NUMBER}|first|nothing)"
 ENTRIES = {

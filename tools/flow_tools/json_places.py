@@ -5,12 +5,14 @@ another, no halves of surrogate pairs, and of a field that occurs twice the last
 """
 import bisect
 import dataclasses
-import json
 import json.decoder
 import re
 from dataclasses import dataclass
 
+from .quoting import quoted, shortened
+
 DEEPEST = 127
+MOST_DIGITS = 309
 BLANKS = re.compile(r"[ \t\n\r]*")
 NUMBER = re.compile(r"-?(?:0|[1-9][0-9]*)(?:\.[0-9]+)?(?:[eE][-+]?[0-9]+)?")
 WORD = re.compile(r"[A-Za-z_][A-Za-z_0-9]*")
@@ -115,7 +117,7 @@ class Reader:
         if offset >= len(self.text):
             return "the end of the file"
         word = WORD.match(self.text, offset)
-        return json.dumps(word.group() if word else self.text[offset], ensure_ascii=False)
+        return quoted(word.group() if word else self.text[offset], 40)
 
     def sign(self):
         """The character behind what was read."""
@@ -143,7 +145,7 @@ class Reader:
             if key.value in fields:
                 repeated[key.value] = key.offset
             keys[key.value] = key.offset
-            fields[key.value] = self.value(self.expect(":", f"a colon behind {json.dumps(key.value)}"), depth + 1)
+            fields[key.value] = self.value(self.expect(":", f"a colon behind {quoted(key.value, 40)}"), depth + 1)
             is_over = self.ends("}", "an object")
         return Node(fields, start, keys=keys, repeated=repeated)
 
@@ -194,12 +196,9 @@ class Reader:
         if not match:
             raise JsonError(start, f"{self.seen(start)} where a value has to stand")
         source = match.group()
-        if not set(source) & set(".eE"):
-            value = int(source)
-        else:
-            value = float(source)
+        value = number_value(source)
         if abs(value) > 1.7976931348623157e308:
-            raise JsonError(start, f"the number {source}, which is too large")
+            raise JsonError(start, f"the number {shortened(source, 40)}, which is too large")
         self.skip(match.end())
         return Node(value, start, source=source)
 
@@ -209,6 +208,13 @@ class Reader:
             raise JsonError(start, f"{self.seen(start)} where a value has to stand")
         self.skip(match.end())
         return Node(NAMED[match.group()], start, source=match.group())
+
+
+def number_value(source):
+    """The value of a number as it is written; of one with more digits than any number has, infinity."""
+    if set(source) & set(".eE"):
+        return float(source)
+    return int(source) if len(source.lstrip("-")) <= MOST_DIGITS else float("inf")
 
 
 def string_fault(message):
