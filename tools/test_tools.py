@@ -3,6 +3,7 @@
 
 Prints nothing where each answers as it should; else the tests that fail, and ends with status 1.
 """
+import html
 import importlib.machinery
 import importlib.util
 import io
@@ -59,6 +60,9 @@ def read(to):
 
 
 READ = read("a")
+# Signs that nobody sees, or that XML has not, and how the tools write them.
+UNSEEN = "\x01\x1b[31m\x9b\uffff\n\u2028\u202e"
+UNSEEN_SHOWN = r"\u0001\u001b[31m\u009b\uffff\u000a\u2028\u202e"
 
 # A file, and a part of each line that flow-lint has for it.
 ERRORS = [
@@ -181,6 +185,18 @@ class Dot(unittest.TestCase):
         text = dot.dot(plan_of(parse(graph(task("a", "keep", word='<"&>\n')))))
         self.assertIn("&lt;\\&quot;&amp;&gt;\\n", text)
 
+    def test_unseen(self):
+        """What XML has not is written as in JSON, and no such escape is cut."""
+        tasks = [task("r", "read", "a", text="x" + UNSEEN), task("a", "keep", "i", word="é" * 22 + UNSEEN),
+                 task("i", "ifhas", "b", word=UNSEEN), task("b", "pass")]
+        text = dot.dot(plan_of(parse(graph(*tasks))))
+        labels = [html.unescape(label) for label in re.findall(r"label=<(.*)>", text)]
+        self.assertEqual(labels[0], "<b>r</b><br/>read x" + UNSEEN_SHOWN)
+        self.assertEqual(labels[1], f'<b>a</b><br/>keep "{"é" * 22}..."')
+        self.assertIn(f'"{UNSEEN_SHOWN[:22]}..."', labels)
+        for label in labels:
+            xml.etree.ElementTree.fromstring(f"<label>{html.escape(label)}</label>")
+
     def test_examples(self):
         for path in sorted((TOP / "examples").glob("*/graph.json")):
             try:
@@ -221,6 +237,8 @@ class Trace(unittest.TestCase):
         root = xml.etree.ElementTree.parse(io.StringIO(timeline.svg(plan, journal, "<run>"))).getroot()
         self.assertEqual(len(root.findall("{*}g")), 11)
         self.assertIn("no seconds", "".join(root.itertext()))
+        root = xml.etree.ElementTree.fromstring(timeline.svg(plan, journal, UNSEEN))
+        self.assertIn(UNSEEN_SHOWN, "".join(root.itertext()))
         events = json.loads(timeline.chrome(plan, journal, "run"))["traceEvents"]
         self.assertEqual([event["name"] for event in events if event["ph"] == "X"][:2], ["web", "web-errors"])
         self.assertEqual(next(event["dur"] for event in events if event["name"] == "web-errors"), 8)

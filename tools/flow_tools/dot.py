@@ -1,6 +1,5 @@
 """A graph file as a picture for Graphviz."""
-import html
-import json
+from .quoting import label, quoted
 
 # The shape, the style and the colour of conditions, of tasks that run a module, and of all others.
 CONDITION = ("diamond", "filled", "#fdf1cf")
@@ -16,17 +15,16 @@ HEAD = """digraph flow {
 """
 
 
-def quoted(text):
-    """A text in quotes; what can't be seen in it is written as in JSON."""
-    shown = json.dumps(text, ensure_ascii=False)
-    return shown if len(shown) <= 30 else f'{shown[:26]}..."'
+def word(text):
+    """A word in quotes, cut short if it is long."""
+    return quoted(text, 30)
 
 
 def operation(fields):
     """An operation of `each` or `pipes`, in a few words; `fields` is a function from a field to what it holds."""
     words = [fields("op")]
     if fields("word") is not None:
-        words.append(quoted(fields("word")))
+        words.append(word(fields("word")))
     if fields("n") is not None:
         words.append(str(fields("n")))
     return " ".join(words)
@@ -73,10 +71,10 @@ def units(task):
     return takes + ([f"gives back {', '.join(task.gives)}"] if task.gives else [])
 
 
-def label(task):
+def task_label(task):
     """The label of a task: its name, what it does, and its semaphores."""
-    rows = [f"<b>{html.escape(task.name)}</b>", *(html.escape(row) for row in work(task)),
-            *(f"<i>{html.escape(row)}</i>" for row in units(task))]
+    rows = [f"<b>{label(task.name)}</b>", *(label(row) for row in work(task)),
+            *(f"<i>{label(row)}</i>" for row in units(task))]
     return "<br/>".join(rows)
 
 
@@ -91,8 +89,8 @@ def choice(task, place):
     """When a condition chooses this successor."""
     if task.op == "route":
         words = task.field("words")
-        return quoted(words[place].value) if place < len(words) else "never"
-    first = {"back": "back", "ifmore": f"more than {task.field('n')}", "ifhas": quoted(task.field("word") or "")}
+        return word(words[place].value) if place < len(words) else "never"
+    first = {"back": "back", "ifmore": f"more than {task.field('n')}", "ifhas": word(task.field("word") or "")}
     names = [first[task.op]] if task.op == "back" else [first[task.op], "else"]
     return names[place] if place < len(names) else "never"
 
@@ -102,7 +100,7 @@ def edge_line(graph, edge, prefix):
     ends = f"{prefix}{edge.source} -> {prefix}{edge.target}"
     if not task.is_condition:
         return f"    {ends}"
-    return f"    {ends} [style=dashed, label=<{html.escape(choice(task, edge.place))}>]"
+    return f"    {ends} [style=dashed, label=<{label(choice(task, edge.place))}>]"
 
 
 def semaphore_line(graph):
@@ -112,13 +110,14 @@ def semaphore_line(graph):
 
 
 def graph_lines(graph, prefix):
-    nodes = [f"    {prefix}{number} [{look(task)}, label=<{label(task)}>]" for number, task in enumerate(graph.tasks)]
+    nodes = [f"    {prefix}{number} [{look(task)}, label=<{task_label(task)}>]"
+             for number, task in enumerate(graph.tasks)]
     return nodes + [edge_line(graph, edge, prefix) for edge in graph.edges()]
 
 
 def module_lines(module, number):
     """A module as a cluster."""
-    title = "<br/>".join(html.escape(row) for row in (f"module {module.name}", semaphore_line(module)) if row)
+    title = "<br/>".join(label(row) for row in (f"module {module.name}", semaphore_line(module)) if row)
     look = 'labelloc=t; fontsize=11; style="rounded,dashed"; color="#8064a2"'
     head = f"    subgraph cluster_{number} {{ label=<{title}>; {look}"
     return [head, *graph_lines(module, f"m{number}_"), "    }"]
@@ -128,7 +127,7 @@ def dot(plan):
     """The text of the picture."""
     rows = graph_lines(plan.top, "t")
     if plan.top.semaphores:
-        rows.append(f"    label=<{html.escape(semaphore_line(plan.top))}>; labelloc=b; fontsize=11")
+        rows.append(f"    label=<{label(semaphore_line(plan.top))}>; labelloc=b; fontsize=11")
     for number, module in enumerate(plan.modules):
         rows += module_lines(module, number)
     return HEAD + "\n".join(rows) + "\n}\n"

@@ -2,6 +2,8 @@
 import difflib
 from dataclasses import dataclass
 
+from .quoting import quoted, visible
+
 
 @dataclass(frozen=True)
 class Finding:
@@ -23,13 +25,13 @@ class Finding:
         line, column = lines.place(self.offset)
         kind = "error" if self.is_error else "warning"
         subject = f"{self.where}: " if self.where else ""
-        return f"{file}:{line}:{column}: {kind}: {subject}{self.text}"
+        return f"{visible(str(file))}:{line}:{column}: {kind}: {subject}{self.text}"
 
 
 def nearest(name, names):
     """'; did you mean "sort"?', if one of the names is close to this one, else nothing."""
     close = difflib.get_close_matches(name.lower(), sorted(set(names)), n=1, cutoff=0.65)
-    return f'; did you mean "{close[0]}"?' if close else ""
+    return f"; did you mean {quoted(close[0])}?" if close else ""
 
 
 def listed(names):

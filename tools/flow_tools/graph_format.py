@@ -2,10 +2,11 @@
 
 docs/FORMATS.md says the same in words. The tests of these tools hold the operations against the program's definitions.
 """
-import json
 import re
 from dataclasses import dataclass
 from typing import Callable
+
+from .quoting import quoted, shortened
 
 LONGEST_FILE = 4_194_304
 NAME = re.compile(r"[A-Za-z0-9_.-]{1,64}")
@@ -23,8 +24,7 @@ def shown(node):
     """The value of a node as a message has it, cut short if it is long."""
     if node.is_object or node.is_list:
         return "an object" if node.is_object else "a list"
-    text = node.source or json.dumps(node.value, ensure_ascii=False)
-    return text if len(text) <= 40 else f"{text[:36]}...{text[-1]}"
+    return shortened(node.source, 40) if node.source else quoted(node.value, 40)
 
 
 # ---- what a field holds: a function from its node to what is wrong with it, or None

@@ -1,12 +1,7 @@
 """What the program runs to its end without an error, and is probably a mistake all the same."""
-import json
-
 from .findings import Finding, listed
+from .quoting import quoted
 from .shapes import circle_through, circles, dominators
-
-
-def quoted(name):
-    return json.dumps(name, ensure_ascii=False)
 
 
 class GraphView:
@@ -16,7 +11,7 @@ class GraphView:
         self.graph = graph
         self.tasks = graph.tasks
         self.edges = graph.edges()
-        self.inside = f' of module "{graph.name}"' if graph.name else ""
+        self.inside = f" of module {quoted(graph.name)}" if graph.name else ""
         self.incoming = [[] for _ in self.tasks]
         self.successors = [[] for _ in self.tasks]
         for edge in self.edges:
@@ -181,7 +176,7 @@ KINDS = (forgotten_starts, dropped_texts, lone_matches, unchosen_edges, waiting_
 def semaphore_mistakes(graph):
     taken = {name for task in graph.tasks for name in task.takes}
     given = {name for task in graph.tasks for name in task.gives}
-    inside = f' of module "{graph.name}"' if graph.name else ""
+    inside = f" of module {quoted(graph.name)}" if graph.name else ""
     for semaphore in graph.semaphores:
         where = f"semaphore {quoted(semaphore.name)}{inside}"
         if semaphore.name not in taken | given:
@@ -204,5 +199,6 @@ def repeated_fields(node):
     while waiting:
         current = waiting.pop()
         for field, offset in current.repeated.items():
-            yield Finding(offset, "", f'the field "{field}" occurs twice here, and the last one counts', is_error=False)
+            text = f"the field {quoted(field)} occurs twice here, and the last one counts"
+            yield Finding(offset, "", text, is_error=False)
         waiting.extend(current.value.values() if current.is_object else current.items())

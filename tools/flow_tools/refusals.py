@@ -11,6 +11,7 @@ from .graph_format import (DEFER_ROW, LONGEST_FILE, MOST, MOST_PIPE_LINES, MOST_
                            PIPE_OPERATIONS, SEMAPHORE, SERIAL, TEXT_OPERATIONS, TO, UNIT_LISTS, Field, field_names,
                            list_of, name, one_object, shown)
 from .json_places import Node
+from .quoting import quoted
 
 
 @dataclass(frozen=True)
@@ -52,7 +53,7 @@ def spots_of(owner, field):
 
 def spot_of(node, kind, number, owner):
     named = node.get("name")
-    called = f'"{named.value}"' if named and named.is_text else str(number)
+    called = quoted(named.value) if named and named.is_text else str(number)
     if owner.is_file:
         return Spot(node, f"{kind} {called}", f"{kind} {number}")
     return Spot(node, f"{kind} {called} of {owner.where}", f"{owner.spot} {kind} {number}")
@@ -92,7 +93,7 @@ def field_findings(spot, fields, more_on_unknown=nothing_more):
     for field in spot.node.value:
         if field not in names:
             more = more_on_unknown(field) + nearest(field, set(names) - set(spot.node.value))
-            yield spot.finding(field, f'the field "{field}" is unknown{more}', spot.node.keys[field])
+            yield spot.finding(field, f"the field {quoted(field)} is unknown{more}", spot.node.keys[field])
 
 
 def file_findings(root):
@@ -241,7 +242,7 @@ def missing_findings(graph, version, modules):
 def absent(spot, field, nodes, names, kind):
     for node in nodes:
         if node.value not in names:
-            text = f'"{field}" names "{node.value}", and no {kind} has this name{nearest(node.value, names)}'
+            text = f'"{field}" names {quoted(node.value)}, and no {kind} has this name{nearest(node.value, names)}'
             yield spot.finding(field, text, node.offset)
 
 
@@ -258,14 +259,15 @@ def repeated_findings(graph, version):
         for field in field_names(UNIT_LISTS[version]):
             counts = Counter(node.value for node in names_in(task, field))
             for repeated in (called for called, count in counts.items() if count > 1):
-                yield task.finding(field, f'"{field}" has the name "{repeated}" twice')
+                yield task.finding(field, f'"{field}" has the name {quoted(repeated)} twice')
 
 
 def same_names(spots):
     seen = set()
     for spot in spots:
         if name_of(spot) in seen:
-            yield spot.finding("name", f'another {spot.spot.split()[-2]} before it has the name "{name_of(spot)}"')
+            kind = spot.spot.split()[-2]
+            yield spot.finding("name", f"another {kind} before it has the name {quoted(name_of(spot))}")
         if name_of(spot) is not None:
             seen.add(name_of(spot))
 

@@ -1,6 +1,7 @@
 """A run as a time line by the indexes of its journal, as SVG or as a trace for Chrome."""
-import html
 import json
+
+from .quoting import label
 
 NOTE = "The axis counts entries of the journal: their order, and no seconds."
 COLOURS = ["#cfe0f5", "#d9ecd2", "#fbe7c2", "#e8d9ef", "#d3eceb", "#f6dcdc", "#e6e3cf", "#dcdfe6"]
@@ -51,7 +52,7 @@ def heading(title, width, height):
     return (f'<svg xmlns="http://www.w3.org/2000/svg" width="{width:.0f}" height="{height:.0f}" '
             'font-family="Helvetica,Arial,sans-serif" font-size="11" fill="#333">\n'
             f'<rect width="100%" height="100%" fill="white"/>\n'
-            f'<text x="10" y="20" font-size="13" font-weight="bold">{html.escape(title)}</text>\n'
+            f'<text x="10" y="20" font-size="13" font-weight="bold">{label(title)}</text>\n'
             f'<text x="10" y="38">{NOTE}</text>')
 
 
@@ -80,8 +81,8 @@ def bar(span, name, step, length):
     dashes = ' stroke-dasharray="4 3"' if span.end is None else ""
     shape = f'x="{x:.1f}" y="{y}" width="{width:.1f}" height="{BAR}" rx="3" fill="{colour}" stroke="#44546a"{dashes}'
     middle = f'x="{x + width / 2:.1f}" y="{y + 16}" text-anchor="middle"'
-    return (f"<g><title>{html.escape(told(span, name))}</title><rect {shape}/>"
-            f"<text {middle}>{html.escape(fitting(name, width))}</text></g>")
+    return (f"<g><title>{label(told(span, name))}</title><rect {shape}/>"
+            f"<text {middle}>{label(fitting(name, width))}</text></g>")
 
 
 def fitting(name, width):
@@ -116,9 +117,9 @@ def drop_marks(journal, names, step):
 
 
 def drop_mark(drop, name, has_room, x, y):
-    label = f'<text x="{x + 9:.1f}" y="{y + 14}">{html.escape(name)}</text>' if has_room else ""
-    return (f"<g><title>{html.escape(name)}: dropped at entry {drop.index}</title>"
-            f'<path d="M{x - 5:.1f} {y + 4} l10 0 l-5 9 z" fill="{FAULT}"/>{label}</g>')
+    text = f'<text x="{x + 9:.1f}" y="{y + 14}">{label(name)}</text>' if has_room else ""
+    return (f"<g><title>{label(name)}: dropped at entry {drop.index}</title>"
+            f'<path d="M{x - 5:.1f} {y + 4} l10 0 l-5 9 z" fill="{FAULT}"/>{text}</g>')
 
 
 # ---- Chrome
