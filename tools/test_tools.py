@@ -137,6 +137,18 @@ class Lint(unittest.TestCase):
                 found = lint(NUMBER_FILE.format(number))
                 self.assertEqual([part in line and len(line) < 160 for line in found], [True], found)
 
+    def test_unseen(self):
+        """No name of a file makes a line of its own, or reaches a terminal as it stands."""
+        unseen = task(UNSEEN, "module", UNSEEN, module=UNSEEN, **{UNSEEN: 1})
+        again = graph(unseen, unseen, modules=[{"name": UNSEEN, "tasks": [unseen, {**unseen, "op": UNSEEN}]}])
+        twice = f'{{"tasks": [], {json.dumps(UNSEEN)}: 1, {json.dumps(UNSEEN)}: 2}}'
+        for text in (again, twice, f'{{"x": 1 {UNSEEN}', f'{{"{UNSEEN[3]}" 1', f'{{"tasks": [{"x" * 5_000}]}}'):
+            found = LINT.findings(text)
+            self.assertTrue(found, text)
+            for line in (finding.line("\n", Lines(text)) for finding in found):
+                self.assertTrue(line.startswith(r"\u000a:") and len(line) < 400, line)
+                self.assertFalse(set(line) & set(UNSEEN.replace("[31m", "")), line)
+
     def test_examples(self):
         """Of each example it says what lint.txt says, or nothing."""
         for folder in sorted((TOP / "examples").iterdir()):
