@@ -1,6 +1,8 @@
 # The README's commands. They need the kit's command `rt` on the path.
 SHELL := bash
 PREFIX ?= $(HOME)/.local
+# Not every shell puts the home folder where ~ stands behind a =.
+override PREFIX := $(patsubst ~/%,$(HOME)/%,$(PREFIX))
 .SHELLFLAGS := -euo pipefail -c
 .PHONY: all program install uninstall demo examples test docs pictures fuzz gate-times
 
@@ -9,8 +11,9 @@ all:
 	rt all check
 	@$(MAKE) --no-print-directory program
 
-# The program, its manual page, the completion for bash, the schema of graph files and the tools that are written in Python,
-# all below PREFIX. DESTDIR goes before it, for packages. `make uninstall` with the same PREFIX takes all of it away.
+# The program, its manual page, the completion for bash, the schema of graph files and the tools that are written in
+# Python, all below PREFIX. DESTDIR goes before it, for packages. `make uninstall` with the same PREFIX takes all of it
+# away.
 ROOT = $(DESTDIR)$(PREFIX)
 TOOLS = flow-dot flow-trace flow-lint
 install: program
@@ -43,8 +46,8 @@ examples: program
 	@bash tools/check_program.sh
 
 # The gate: every proof, must-fail edit and test that hasn't passed on this machine as it stands, whose last line is
-# 'N passed, M failed'; then the documents against the sources, the tools in Python on cases with answers, and the program
-# that it built on the examples.
+# 'N passed, M failed'; then the documents against the sources, the tools in Python on cases with answers, and the
+# program that it built on the examples.
 test:
 	rt ci
 	@bash tools/check_docs.sh
@@ -60,9 +63,9 @@ gate-times:
 pictures:
 	@bash tools/make_pictures.sh
 
-# Random graphs, journals and failing allocations on the built program, five minutes of each of eight tools, and what other
-# programs say of the schema, the manual page and the completion; no part of the gate. `make fuzz SEED=N` makes the cases of
-# an earlier call again.
+# Random graphs, journals and failing allocations on the built program, five minutes of each of eight tools, and what
+# other programs say of the schema, the manual page and the completion; no part of the gate. `make fuzz SEED=N` makes
+# the cases of an earlier call again.
 fuzz: program
 	@bash tools/fuzz.sh $(SEED)
 
