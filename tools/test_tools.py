@@ -19,7 +19,7 @@ import xml.etree.ElementTree
 import format_tables
 from flow_tools import dot, journals, timeline
 from flow_tools.graph_format import OPERATIONS, field_names
-from flow_tools.json_places import JsonError, Lines, decoded, parse
+from flow_tools.json_places import JsonError, decoded, lines_of, parse
 from flow_tools.plans import UnreadableFile, load, plan_of
 from flow_tools.refusals import refusals
 
@@ -40,8 +40,12 @@ def tool(name):
 
 def lint(text):
     """What flow-lint says of a file, without the file's name."""
-    lines = Lines(text)
-    return [finding.line("", lines).removeprefix(":") for finding in LINT.findings(text)]
+    return lint_bytes(text.encode())
+
+
+def lint_bytes(data):
+    lines = lines_of(data)
+    return [finding.line("", lines).removeprefix(":") for finding in LINT.findings(data)]
 
 
 LINT = tool("flow-lint")
@@ -85,7 +89,14 @@ ERRORS = [
     (graph(task("a", "module", module="m"), modules=[{"name": "n", "tasks": []}]),
      ['"module" names "m", and no module of the file']),
     (graph(task("a", "input"), task("a", "input")), ['another task before it has the name "a"']),
+    ('{"tasks": [\n1,\n{"name": "a", "op": "input"},\n2]}', ["2:1: error: ", "4:1: error: "]),
+    ('{"tasks": [{"name": "a", "op": "input", "to":\n["",\n"a", "ä"]}]}', ["2:2: error: ", '3:6: error: task "a": the']),
     (graph(task("a", "pass", "a")), ["none can start", "waits for itself: a -> a"]),
+]
+BAD_BYTES = [
+    (b'{"tasks": [\n"\xc3\xa4\xff', "2:3: error: a byte that is no UTF-8"),
+    (b'\xff\n{', "1:1: error: a byte that is no UTF-8"),
+    (b'\xef\xbb\xbf{"tasks": []}', "1:1: error: a byte order mark, which JSON has not"),
 ]
 # A file with a number, and what flow-lint says of it: the first numbers are JSON, the others too large for it.
 NUMBER_FILE = '{{"tasks": [{{"name": "a", "op": "head", "n": {}}}]}}'
@@ -131,6 +142,16 @@ class Lint(unittest.TestCase):
         self.assertTrue(all("error: " in line for text, _ in ERRORS[:-1] for line in lint(text)))
         self.assertTrue(all("warning: " in line for text, _ in WARNINGS for line in lint(text)))
 
+    def test_bytes(self):
+        for data, line in BAD_BYTES:
+            self.assertEqual(lint_bytes(data), [line])
+            with tempfile.NamedTemporaryFile() as file:
+                file.write(data)
+                file.flush()
+                with self.assertRaises(UnreadableFile) as refused:
+                    load(file.name)
+                self.assertEqual(str(refused.exception), f"{file.name}:{line}".replace("error: ", ""))
+
     def test_long_numbers(self):
         for numbers, part in ((OTHER_NUMBERS, "and has to be a whole number"), (TOO_LARGE, ", which is too large")):
             for number in numbers:
@@ -143,9 +164,9 @@ class Lint(unittest.TestCase):
         again = graph(unseen, unseen, modules=[{"name": UNSEEN, "tasks": [unseen, {**unseen, "op": UNSEEN}]}])
         twice = f'{{"tasks": [], {json.dumps(UNSEEN)}: 1, {json.dumps(UNSEEN)}: 2}}'
         for text in (again, twice, f'{{"x": 1 {UNSEEN}', f'{{"{UNSEEN[3]}" 1', f'{{"tasks": [{"x" * 5_000}]}}'):
-            found = LINT.findings(text)
+            found = LINT.findings(text.encode())
             self.assertTrue(found, text)
-            for line in (finding.line("\n", Lines(text)) for finding in found):
+            for line in (finding.line("\n", lines_of(text.encode())) for finding in found):
                 self.assertTrue(line.startswith(r"\u000a:") and len(line) < 400, line)
                 self.assertFalse(set(line) & set(UNSEEN.replace("[31m", "")), line)
 

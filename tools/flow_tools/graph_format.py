@@ -4,7 +4,7 @@ docs/FORMATS.md says the same in words. The tests of these tools hold the operat
 """
 import re
 from dataclasses import dataclass
-from typing import Callable
+from typing import Callable, Optional
 
 from .quoting import quoted, shortened
 
@@ -61,16 +61,15 @@ def name(node):
     return f"is {shown(node)}, and has to be 1 to 64 letters without accents, digits, _, - and ."
 
 
-def list_of(item, least=0, most=None):
-    """A list of so many items, each as this function asks."""
+def a_list(least=0, most=None):
+    """A list of so many items."""
     def fault(node):
         if not node.is_list:
             return f"is {shown(node)}, and has to be a list"
         count = len(node.value)
         if count < least or (most is not None and count > most):
             return f"has {count:,} items, and has to have {least} to {most:,}"
-        faults = (item(entry) for entry in node.value)
-        return next((f"has an item that {what}" for what in faults if what), None)
+        return None
     return fault
 
 
@@ -82,11 +81,26 @@ def one_object(node):
 
 @dataclass(frozen=True)
 class Field:
-    """A field of an object: its name, what it holds, and whether it has to be there."""
+    """A field of an object: its name, what it holds, whether it has to be there, and what each item of a list holds."""
 
     name: str
     fault: Callable
     is_needed: bool = True
+    item: Optional[Callable] = None
+
+    def faults(self, node):
+        """What is wrong with the field's value or with items of it, and where."""
+        what = self.fault(node)
+        if what:
+            yield what, node.offset
+        elif self.item:
+            faults = ((self.item(entry), entry.offset) for entry in node.items())
+            yield from ((f"has an item that {what}", offset) for what, offset in faults if what)
+
+
+def list_field(name, item, least=0, most=None, is_needed=True):
+    """A field that holds a list of so many items, each as this function asks."""
+    return Field(name, a_list(least, most), is_needed, item)
 
 
 WORD = Field("word", text(0))
@@ -106,29 +120,28 @@ OPERATIONS = {
     "back": (),
     "ifmore": (LINES,),
     "ifhas": (WORD,),
-    "route": (Field("words", list_of(text(0), most=256)),),
+    "route": (list_field("words", text(0), most=256),),
     "spread": (PART, Field("each", one_object)),
     "module": (Field("module", any_text),),
     "pipe": (
         Field("lines", whole(0, 2**32 - 1)),
         Field("n", PART.fault, is_needed=False),
-        Field("pipes", list_of(one_object)),
-        Field("defer", list_of(one_object, most=256), is_needed=False),
+        list_field("pipes", one_object),
+        list_field("defer", one_object, most=256, is_needed=False),
     ),
     **TEXT_OPERATIONS,
 }
 
-NAMES = list_of(name)
 # What it holds is looked into by itself, since the other fields depend on it.
 OPERATION = Field("op", lambda node: None)
-TO = Field("to", NAMES, is_needed=False)
+TO = list_field("to", name, is_needed=False)
 # The lists by which a task names semaphores, for each version of graph files.
 UNIT_LISTS = {
-    1: (Field("holds", NAMES, is_needed=False),),
-    2: (Field("acquire", NAMES, is_needed=False), Field("release", NAMES, is_needed=False)),
+    1: (list_field("holds", name, is_needed=False),),
+    2: (list_field("acquire", name, is_needed=False), list_field("release", name, is_needed=False)),
 }
 SEMAPHORE = (Field("name", name), Field("max", whole(1, 1_000_000)))
-DEFER_ROW = (Field("token", whole(0, 65_535)), Field("to", list_of(whole(0, 1_000_000), 1, 8)))
+DEFER_ROW = (Field("token", whole(0, 65_535)), list_field("to", whole(0, 1_000_000), 1, 8))
 SERIAL = Field("serial", true_or_false)
 
 

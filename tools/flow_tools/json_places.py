@@ -80,6 +80,11 @@ class Lines:
         return line, offset - self.starts[line - 1] + 1
 
 
+def lines_of(data):
+    """The lines of a file's bytes, of such that are no UTF-8 too."""
+    return Lines(data.decode("utf-8", "replace"))
+
+
 def decoded(data):
     """The text of a file's bytes."""
     try:

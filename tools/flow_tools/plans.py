@@ -3,7 +3,7 @@ import pathlib
 from dataclasses import dataclass
 
 from .graph_format import CONDITIONS, UNIT_LISTS, field_names
-from .json_places import JsonError, Lines, Node, decoded, parse
+from .json_places import JsonError, Node, decoded, lines_of, parse
 from .refusals import refusals
 
 
@@ -72,28 +72,35 @@ class Plan:
         return [self.top, *self.modules]
 
 
-def text_of(path):
-    """The text of a file, or why it has none."""
+def bytes_of(path):
+    """The bytes of a file, or why it has none."""
     try:
-        return decoded(pathlib.Path(path).read_bytes())
+        return pathlib.Path(path).read_bytes()
     except OSError as error:
         raise UnreadableFile(f"{path}: {error.strerror}") from None
+
+
+def text_of(path):
+    """The text of a file, or why it has none."""
+    return read_as(decoded, path, bytes_of(path))
+
+
+def read_as(reading, path, data):
+    """What a function reads in a file's bytes, or where and why it can't."""
+    try:
+        return reading(data)
     except JsonError as error:
-        raise UnreadableFile(f"{path}: {error.why}") from None
+        line, column = lines_of(data).place(error.offset)
+        raise UnreadableFile(f"{path}:{line}:{column}: {error.why}") from None
 
 
 def load(path):
     """The plan of a graph file that the program takes."""
-    text = text_of(path)
-    lines = Lines(text)
-    try:
-        root = parse(text)
-    except JsonError as error:
-        line, column = lines.place(error.offset)
-        raise UnreadableFile(f"{path}:{line}:{column}: {error.why}") from None
+    data = bytes_of(path)
+    root = read_as(lambda read: parse(decoded(read)), path, data)
     found = refusals(root)
     if found:
-        raise UnreadableFile(min(found, key=lambda finding: finding.offset).line(path, lines))
+        raise UnreadableFile(min(found, key=lambda finding: finding.offset).line(path, lines_of(data)))
     return plan_of(root)
 
 

@@ -9,7 +9,7 @@ from dataclasses import dataclass
 from .findings import Finding, listed, nearest
 from .graph_format import (DEFER_ROW, LONGEST_FILE, MOST, MOST_PIPE_LINES, MOST_PIPES, OPERATION, OPERATIONS,
                            PIPE_OPERATIONS, SEMAPHORE, SERIAL, TEXT_OPERATIONS, TO, UNIT_LISTS, Field, field_names,
-                           list_of, name, one_object, shown)
+                           list_field, name, one_object, shown)
 from .json_places import Node
 from .quoting import quoted
 
@@ -86,9 +86,8 @@ def field_findings(spot, fields, more_on_unknown=nothing_more):
         node = spot.node.get(field.name)
         if node is None and field.is_needed:
             yield spot.finding(field.name, f'the field "{field.name}" is missing')
-        what = field.fault(node) if node else None
-        if what:
-            yield spot.finding(field.name, f'the field "{field.name}" {what}')
+        for what, offset in field.faults(node) if node else []:
+            yield spot.finding(field.name, f'the field "{field.name}" {what}', offset)
     names = field_names(fields)
     for field in spot.node.value:
         if field not in names:
@@ -101,10 +100,9 @@ def file_findings(root):
     if not root.is_object:
         yield spot.finding("tasks", f"the file is {shown(root)}, and has to be an object")
         return
-    objects = list_of(one_object)
     yield from field_findings(spot, (
-        Field("version", version_fault, is_needed=False), Field("tasks", objects),
-        Field("semaphores", objects, is_needed=False), Field("modules", objects, is_needed=False)))
+        Field("version", version_fault, is_needed=False), list_field("tasks", one_object),
+        list_field("semaphores", one_object, is_needed=False), list_field("modules", one_object, is_needed=False)))
 
 
 def version_fault(node):
@@ -118,10 +116,10 @@ def version_of(root):
 
 
 def graph_findings(graph, version):
-    objects = list_of(one_object)
     if not graph.spot.is_file:
         yield from field_findings(graph.spot, (
-            Field("name", name), Field("tasks", objects), Field("semaphores", objects, is_needed=False)))
+            Field("name", name), list_field("tasks", one_object),
+            list_field("semaphores", one_object, is_needed=False)))
     for semaphore in graph.semaphores:
         yield from field_findings(semaphore, SEMAPHORE)
     for task in graph.tasks:
@@ -306,9 +304,9 @@ def depth_of(graphs):
     return below(None)
 
 
-def size_findings(text):
+def size_findings(data):
     """A file that is longer than what the program reads."""
-    size = len(text.encode())
+    size = len(data)
     if size > LONGEST_FILE:
         yield Finding(0, "", f"the file has {size:,} bytes, and may have {LONGEST_FILE:,}")
 
