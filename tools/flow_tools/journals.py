@@ -55,6 +55,8 @@ class Journal:
 def read_journal(path, tasks):
     """The journal in a file, of a graph of so many tasks."""
     lines = text_of(path).split("\n")
+    if lines[0].startswith("## round"):
+        raise UnreadableFile(f"{path}: it has several rounds; keep one, without its `## round` line")
     if lines[0] not in HEADS or lines.pop() != "":
         raise UnreadableFile(f'{path}: it is no whole journal, as `flow run FILE --journal` prints one')
     spans, drops = {}, []
