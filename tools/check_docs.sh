@@ -1,6 +1,6 @@
 #!/usr/bin/env bash
-# Holds README.md, docs/, the manual page and the completion against the sources. Prints nothing where they agree; else a line for each
-# difference, and ends with status 1. A check that finds nothing to look at is a difference too.
+# Holds README.md, docs/, the manual page and the completion against the sources. Prints nothing where they agree; else
+# a line for each difference, and ends with status 1. A check that finds nothing to look at is a difference too.
 set -euo pipefail
 cd "$(dirname "${BASH_SOURCE[0]}")/.."
 

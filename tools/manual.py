@@ -15,8 +15,8 @@ import textwrap
 
 from flow_tools.findings import listed
 from format_tables import (CODE, FORMATS, NUMBERS, OPERATIONS, REQUESTS, TOP, commands, constants, defined_commands,
-                           defined_operations, documented_commands, documented_operations, operations, options, statuses,
-                           task_fields)
+                           defined_operations, documented_commands, documented_operations, operations, options,
+                           statuses, task_fields)
 
 PAGE = TOP / "man/flow.1"
 COMPLETION = TOP / "share/flow.bash"

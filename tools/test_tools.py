@@ -90,7 +90,8 @@ ERRORS = [
      ['"module" names "m", and no module of the file']),
     (graph(task("a", "input"), task("a", "input")), ['another task before it has the name "a"']),
     ('{"tasks": [\n1,\n{"name": "a", "op": "input"},\n2]}', ["2:1: error: ", "4:1: error: "]),
-    ('{"tasks": [{"name": "a", "op": "input", "to":\n["",\n"a", "ä"]}]}', ["2:2: error: ", '3:6: error: task "a": the']),
+    ('{"tasks": [{"name": "a", "op": "input", "to":\n["",\n"a", "ä"]}]}',
+     ["2:2: error: ", '3:6: error: task "a": the field "to" has an item that is "ä"']),
     (graph(task("a", "pass", "a")), ["none can start", "waits for itself: a -> a"]),
 ]
 BAD_BYTES = [
@@ -178,7 +179,7 @@ class Lint(unittest.TestCase):
             self.assertEqual(found, wanted.read_text() if wanted.exists() else "", folder.name)
 
     def test_refused_files(self):
-        """It has errors for the files that the program refuses and no others, with what the program names among them."""
+        """It has errors for the files that the program refuses alone, with what the program names among them."""
         for line in TABLE.read_text().split("\n")[:-1]:
             said, _, file = line.partition(" | ")
             self.assertTrue(self.agrees(said, file), line)
@@ -259,8 +260,9 @@ class Trace(unittest.TestCase):
         for text in ("", "flow journal 2", "flow journal 3\n", "flow journal 2\nstart 5 source -\n",
                      "flow journal 2\nend 0 - plain\n", "flow journal 2\nstart 0 source\n",
                      "## round 1\nflow journal 2\n", f"flow journal 2\nstart {'1' * 5_000} source -\n"):
-            with self.assertRaises(UnreadableFile, msg=text):
+            with self.assertRaises(UnreadableFile, msg=text) as refused:
                 self.journal(text, 2)
+            self.assertEqual("several rounds" in str(refused.exception), text.startswith("## round"), text)
 
     def test_pictures(self):
         folder = TOP / "examples/errors-by-service"
