@@ -1,5 +1,6 @@
 """A graph file as a picture for Graphviz."""
-from .quoting import label, quoted
+from . import quoting
+from .quoting import quoted
 
 # The shape, the style and the colour of conditions, of tasks that run a module, and of all others.
 CONDITION = ("diamond", "filled", "#fdf1cf")
@@ -13,6 +14,11 @@ HEAD = """digraph flow {
     node [fontname="Helvetica,Arial,sans-serif", fontsize=11, color="#44546a"]
     edge [fontname="Helvetica,Arial,sans-serif", fontsize=10, color="#44546a", arrowsize=0.8]
 """
+
+
+def label(text):
+    """A text as a label, in which Graphviz takes no backslash for the beginning of an escape of its own."""
+    return quoting.label(text).replace("\\", "\\\\")
 
 
 def word(text):
