@@ -1,7 +1,8 @@
 // What serving a desk comes to.
 use crate::workers::{ByThreads, team};
+use outside_io::List;
 use run_desk::{Ask, DeskEnd, DeskEntry, Served, serve};
-use span_profile::SpanCount;
+use run_frame::FrameRun;
 use std::test::Fail;
 use test_desk_book::{TickJob, TwoCallers, finish, two_callers};
 
@@ -38,6 +39,15 @@ const HISTORY: [DeskEntry; 9] = [
     DeskEntry::Ended(2, true),
 ];
 
+// Whether each ask has so many rounds.
+fn have_rounds(runs: &[List<FrameRun<TickJob>>], wanted: &[usize]) -> bool {
+    runs.len() == wanted.len()
+        && runs
+            .iter()
+            .zip(wanted)
+            .all(|(runs, count)| runs.len() == *count)
+}
+
 // By one thread and by two workers: each ask has as many rounds as it asked for.
 #[test]
 fn each_ask_is_served_in_its_turn(rt: HostRuntime) -> Result<(), Fail> {
@@ -52,46 +62,21 @@ fn each_ask_is_served_in_its_turn(rt: HostRuntime) -> Result<(), Fail> {
     assert_eq!(rt; desk.ask(&rt, &mut first, 0, 2), Ok(0));
     assert_eq!(rt; desk.ask(&rt, &mut second, 1, 1), Ok(1));
     assert_eq!(rt; desk.ask(&rt, &mut first, 0, 1), Ok(2));
-    let zeroth = serve::<TickJob, SpanCount, ByThreads, HostRuntime>(
-        &rt, alloc, &desk, &mut first, &mut alone,
-    );
+    let zeroth = serve::<_, _, ByThreads, _>(&rt, alloc, &desk, &mut first, &mut alone);
     assert_eq!(rt; zeroth, Served::Ran(0));
-    let oneth = serve::<TickJob, SpanCount, ByThreads, HostRuntime>(
-        &rt,
-        alloc,
-        &desk,
-        &mut second,
-        &mut crew,
-    );
+    let oneth = serve::<_, _, ByThreads, _>(&rt, alloc, &desk, &mut second, &mut crew);
     assert_eq!(rt; oneth, Served::Ran(1));
-    let last = serve::<TickJob, SpanCount, ByThreads, HostRuntime>(
-        &rt,
-        alloc,
-        &desk,
-        &mut second,
-        &mut crew,
-    );
+    let last = serve::<_, _, ByThreads, _>(&rt, alloc, &desk, &mut second, &mut crew);
     assert_eq!(rt; last, Served::Ran(2));
-    let DeskEnd::Done(run) = finish(
-        &rt,
-        alloc,
-        TwoCallers {
-            desk,
-            first,
-            second,
-        },
-    )?
-    else {
+    let callers = TwoCallers {
+        desk,
+        first,
+        second,
+    };
+    let DeskEnd::Done(run) = finish(&rt, alloc, callers)? else {
         panic!(rt; "an ask has not ended")
     };
     assert!(rt; run.history.as_slice() == HISTORY.as_slice());
-    for (number, rounds) in [(0, 2), (1, 1), (2, 1)] {
-        assert!(rt;
-            run.runs
-                .get(number)
-                .is_some_and(|runs| runs.len() == rounds),
-            "ask {number}"
-        );
-    }
+    assert!(rt; have_rounds(run.runs.as_slice(), &[2, 1, 1]));
     Ok(())
 }
