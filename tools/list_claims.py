@@ -28,6 +28,7 @@ UNCLAIMED = {
     ),
     "what a law says of every fold, where no fold can fail it; the law's proof ties it": (
         "grain_tasks/specs/Chunks.antt: JoinsChunks",
+        "grain_tasks/specs/ChunkWork.antt: RunsAreFine",
     ),
     "cited only by the law that text jobs are plain": (
         "run_laws/specs/PlainJobs.antt: IsGraphJob IsInside IsPlainly",

@@ -3,6 +3,7 @@
 #![tactic(auto)]
 
 mod clock;
+mod draws;
 mod files;
 mod frames;
 mod graphs;
@@ -22,6 +23,7 @@ fn main(rt: HostRuntime) -> io::Result<()> {
         return Ok(());
     };
     match subject.as_str() {
+        "draws" => draws::measure(&rt, words),
         "frames" => frames::measure(&rt, rt.alloc()),
         "graphs" => graphs::measure(&rt, words),
         "journals" => journals::measure(&rt, words),

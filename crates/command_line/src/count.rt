@@ -19,7 +19,7 @@ pub struct Count<'w> {
     pub word: &'w str,
     /// The name of the text.
     pub file: &'w str,
-    /// How many lines a chunk has, from 1 to 1,000,000.
+    /// How many lines a chunk has at least, from 1 to 1,000,000.
     pub grain: u64,
     /// By how many workers the lines are counted, from 1 to 16.
     pub workers: u32,

@@ -11,7 +11,7 @@ use Rattle.flow_run.specs.declared.conclusion.Conclusion.TheVariants as conclusi
 use Rattle.text_ops.specs.TextMeaning.{word_lines}
 use Rattle.flow_run.specs.Answers.{AskedEnds, CallEnds, conclusion_text, output_of}
 use Rattle.flow_run.specs.Completion.{IsAtHand}
-use Rattle.flow_run.specs.Counted.{CountEnds, EndsCounted, HoldsText, IsCounted, count_text}
+use Rattle.flow_run.specs.Counted.{CountEnds, EndsCounted, HoldsText, IsLineCount, count_text}
 use Rattle.flow_run.specs.Requests.{SourceTexts, IsTextOf}
 
 abbrev t : List ℕ
@@ -34,13 +34,13 @@ held = Some texts
 text_of_t : IsTextOf held t (codes "ab\nc\nxb\n")
 text_of_t = record { bytes = codes "ab\nc\nxb"; read = (refl, omega arith); is = refl }
 
-two_lines : IsCounted held b t 2
+two_lines : IsLineCount held b t 2
 two_lines = record { text = codes "ab\nc\nxb\n"; read = text_of_t; counted = refl }
 
-every_line_has_the_empty_word : IsCounted held [] t 3
+every_line_has_the_empty_word : IsLineCount held [] t 3
 every_line_has_the_empty_word = record { text = codes "ab\nc\nxb\n"; read = text_of_t; counted = refl }
 
-no_line_has_a_line_end : IsCounted held (codes "b\n") t 0
+no_line_has_a_line_end : IsLineCount held (codes "b\n") t 0
 no_line_has_a_line_end = record { text = codes "ab\nc\nxb\n"; read = text_of_t; counted = refl }
 
 one_text : (text : List ℕ) → IsTextOf held t text → text ≡ codes "ab\nc\nxb\n"
@@ -48,12 +48,12 @@ one_text text is =
     let same : Some is.bytes ≡ Some (codes "ab\nc\nxb") = sym is.read.0 in
     is.is ∙ ap Rattle.text_ops.specs.Lines.normal (let bytes : is.bytes ≡ codes "ab\nc\nxb" = cc in bytes)
 
-words_in_place_of_lines : ¬ IsCounted held b t 3
+words_in_place_of_lines : ¬ IsLineCount held b t 3
 words_in_place_of_lines is =
     let counted : 3 ≡ word_lines b (codes "ab\nc\nxb\n") = is.counted ∙ ap (word_lines b) (one_text is.text is.read) in
     absurd (omega (arith, counted))
 
-lines_of_a_missing_text : (lines : ℕ) → ¬ IsCounted held b u lines
+lines_of_a_missing_text : (lines : ℕ) → ¬ IsLineCount held b u lines
 lines_of_a_missing_text lines is = let none : None ≡ Some is.read.bytes = is.read.read.0 in absurd (cc)
 
 -- ---- how the call ends
@@ -71,7 +71,7 @@ other_lines_said : ¬ EndsCounted held b t Done (Some (conclusion.WordLines 3))
 other_lines_said ends =
     let only : Some (conclusion.WordLines 3) ≡ Some (conclusion.WordLines ends.lines) = ends.only in
     let same : 3 ≡ ends.lines = cc in
-    words_in_place_of_lines (subst (IsCounted held b t) (sym same) ends.counted)
+    words_in_place_of_lines (subst (IsLineCount held b t) (sym same) ends.counted)
 
 refused_after_counting : ¬ EndsCounted held b t BadWords (Some (conclusion.WordLines 2))
 refused_after_counting ends = by_status ends.after

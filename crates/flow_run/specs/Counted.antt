@@ -10,7 +10,7 @@ use Rattle.flow_run.specs.Requests.{SourceTexts, IsTextOf, StopsAtName, text_lim
 use Rattle.flow_run.specs.PlanFiles.{IsAfterConclusion}
 
 -- the word occurs in so many lines of the text that is held under the file's name
-pub record IsCounted (held : SourceTexts) (word file : List ℕ) (lines : ℕ) : Type 0 where
+pub record IsLineCount (held : SourceTexts) (word file : List ℕ) (lines : ℕ) : Type 0 where
   pub text : List ℕ
   pub read : IsTextOf held file text
   pub counted : lines ≡ word_lines word text
@@ -19,7 +19,7 @@ pub record IsCounted (held : SourceTexts) (word file : List ℕ) (lines : ℕ) :
 pub record EndsCounted (held : SourceTexts) (word file : List ℕ) (status : Status) (concluded : Option Conclusion) : Type 0 where
   pub lines : ℕ
   pub only : concluded ≡ Some (conclusion.WordLines lines)
-  pub counted : IsCounted held word file lines
+  pub counted : IsLineCount held word file lines
   pub after : IsAfterConclusion status
 
 -- How a call ends that is to count lines: at the text, for a reason that the status has, or after them.

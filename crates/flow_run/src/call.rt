@@ -46,8 +46,8 @@ pub struct CallResult {
     pub status: Status,
     /// The runs that were run to their end, round after round.
     pub runs: List<FrameRun<TextJob>>,
-    /// What was concluded: the judge's verdict, the findings on a graph, its new file, the profile of the runs, or the number
-    /// of lines that were counted.
+    /// What was concluded: the judge's verdict, the findings on a graph, its new file, the profile of the runs, or the
+    /// number of lines that were counted.
     pub conclusion: Option<Conclusion>,
     /// The watchers that were handed in. Those of the workers were told the spans of the runs.
     pub watchers: Vec<Box<dyn Watch + Send>>,
@@ -89,10 +89,10 @@ pub fn flow_main<F: Texts, S: Sink, N: Sink, R: Threads + Wait + Sync>(
 ) -> CallResult
     requires nothing_held_on_out { (S.state out.old).held_back ≡ [] }
     requires nothing_held_on_notes { (N.state notes.old).held_back ≡ [] }
-    // The status has its cause; the kept runs are the rounds that are asked for of the graph that FILE holds, each legal
-    // and complete, or the first of them where memory ran out, and the profile is theirs; the verdict is that on the
-    // journal that JOURNAL holds, the findings are those on the graph that FILE holds, the new file is one for that graph,
-    // and the lines that were counted are those of the text that FILE holds in which WORD occurs.
+    // The status has its cause; the kept runs are the rounds that are asked for of the graph that FILE holds, each
+    // legal and complete, or the first of them where memory ran out, and the profile is theirs; the verdict is that on
+    // the journal that JOURNAL holds, the findings are those on the graph that FILE holds, the new file is one for that
+    // graph, and the lines that were counted are those of the text that FILE holds in which WORD occurs.
     ensures ends { CallEnds (F.held texts.old) (map string_bytes words.now) result.status
         result.runs result.conclusion }
     // Where that is at hand, no read and no write fails and no run is cut short, all is done.
@@ -103,21 +103,22 @@ pub fn flow_main<F: Texts, S: Sink, N: Sink, R: Threads + Wait + Sync>(
     // Whatever the number of workers: the kept run of a plan without conditions is fine exactly where its values by one
     // thread run through, and its report is then theirs.
     ensures kept_plainly { All IsReportedPlainly result.runs }
-    // Whatever the number of workers: in each pipeline's run inside the kept runs the serial pipes start the tokens in the
-    // order in which they pass, those that wait for others included; where nothing is cut short, all pass all pipes.
+    // Whatever the number of workers: in each pipeline's run inside the kept runs the serial pipes start the tokens in
+    // the order in which they pass, those that wait for others included; where nothing is cut short, all pass all
+    // pipes.
     ensures pipes { All PipesInOrder result.runs }
-    // Where rounds of such a plan are asked for, but not their journals, and the source specifies the file and the texts,
-    // and holds them within their limits, the call is done exactly where the values of each round by one thread run
-    // through, unless something fails; and the output has taken just their reports by one thread, or the table of their
-    // profile, which has some number of spans.
+    // Where rounds of such a plan are asked for, but not their journals, and the source specifies the file and the
+    // texts, and holds them within their limits, the call is done exactly where the values of each round by one thread
+    // run through, unless something fails; and the output has taken just their reports by one thread, or the table of
+    // their profile, which has some number of spans.
     ensures plainly { (rounds : AskedRounds) (job : TextJob)
         → AsksPlainly (F.held texts.old) (asked_by (map string_bytes words.now)) rounds job
         → EndsPlainly (asked_by (map string_bytes words.now)) rounds job
         (S.state out.old).taken (S.state out.new).taken
         (NothingFails F.failed S.state texts.old texts.new out.old out.new) result.status }
     // The output took the reports or the journals of the kept runs, or their profile, or the verdict's line, or the
-    // findings, or the new file, or the number of the lines; where it failed or an allocation did, a prefix of it. Where no run is kept and nothing
-    // was concluded, it is left alone.
+    // findings, or the new file, or the line of the count; where it failed or an allocation did, a prefix of it. Where
+    // no run is kept and nothing was concluded, it is left alone.
     ensures output { HasWritten S.state out.old out.new result.status
         ((result.runs ≡ []) × (result.conclusion ≡ None))
         (output_of (map string_bytes words.now) result.runs result.conclusion) result.written }
@@ -130,9 +131,9 @@ pub fn flow_main<F: Texts, S: Sink, N: Sink, R: Threads + Wait + Sync>(
     // The diagnostics sink took the line of the status, or a prefix of it where it failed, or nothing.
     ensures noted { HasNoted N.state notes.old notes.new
         (note_line (plan_run result.runs) result.status) result.status result.noted }
-    // Unless memory ran out, the watchers of the workers, one a worker, were together told as many spans as the kept runs
-    // have, with the runs inside them; a count that reaches the greatest u64 stays there. The other watchers are as they
-    // were.
+    // Unless memory ran out, the watchers of the workers, one a worker, were together told as many spans as the kept
+    // runs have, with the runs inside them; a count that reaches the greatest u64 stays there. The other watchers are
+    // as they were.
     ensures watchers { HaveSeen told (asked_workers (asked_by (map string_bytes words.now)))
         (result.status ≢ Status.NoMemory) result.runs watchers.items result.watchers.items }
 {

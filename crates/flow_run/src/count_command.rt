@@ -3,7 +3,7 @@ ghost use Rattle.std.specs.Prelude.{◌≡◌, [], None, Some, IfErr, IfOk};
 ghost use Rattle.outside_io.specs.Sink.{Writes};
 ghost use Rattle.call_status.specs.Delivery.{Delivers};
 ghost use Rattle.flow_run.specs.Answers.{HasWritten, conclusion_text};
-ghost use Rattle.flow_run.specs.Counted.{CountEnds, IsCounted, count_text};
+ghost use Rattle.flow_run.specs.Counted.{CountEnds, IsLineCount, count_text};
 ghost use Rattle.flow_run.specs.PlanFiles.{IsAfterConclusion};
 ghost use Rattle.flow_run.specs.Reads.{FailsBy, HaveRead};
 ghost use Rattle.flow_run.specs.Requests.{StopsAtName, text_limit};
@@ -20,7 +20,8 @@ use std::alloc::Global;
 use std::thread::Threads;
 use text_ops::Text;
 
-/// Counts the lines of a text in which a word occurs, by as many workers as are asked for, and writes how many they are.
+/// Counts the lines of a text in which a word occurs, by as many workers as are asked for, and writes how many they
+/// are.
 pub(crate) fn count_file<F: Texts, S: Sink, R: Threads + Sync>(
     rt: &R,
     alloc: Global,
@@ -50,7 +51,7 @@ fn counted<F: Texts, R: Threads + Sync>(
     texts: &mut F,
 ) -> Result<u64, Stop>
     ensures counted { IfOk result
-        (IsCounted (F.held texts.old) asked.entry.word.now asked.entry.file.now) }
+        (IsLineCount (F.held texts.old) asked.entry.word.now asked.entry.file.now) }
     ensures stops { IfErr result
         (StopsAtName (F.held texts.old) asked.entry.file.now text_limit) }
     ensures stays { F.held texts.new ≡ F.held texts.old }

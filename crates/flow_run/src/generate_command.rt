@@ -115,8 +115,8 @@ fn generated_job<R: Wait>(rt: &R, alloc: Global, layers: u64) -> Result<TextJob,
     Ok(first_job(plan, texts, GREATEST_LIMIT))
 }
 
-// Writes the summary of the run, if there is one, and all that is held back of it. Where there is none the output is left
-// alone.
+// Writes the summary of the run, if there is one, and all that is held back of it. Where there is none the output is
+// left alone.
 fn deliver_summary<S: Sink>(
     alloc: Global,
     out: &mut S,

@@ -6,9 +6,10 @@
 //! they are by one thread for a plan without conditions, `Profiles` what a profile of them is, `PlainProfiles` what it
 //! has of each task of such a plan, `Watched` what watchers are told, `Judgements` what a judgement of a journal comes
 //! to, `Checks` what a check of a graph comes to, `Upgrades` what an upgrade of its file comes to, `PlanFiles` how both
-//! end, `Generated` which generated graph is run and what is written of it, `Counted` what a count of lines comes to, `Answers` how a call ends, `Completion` what
-//! it needs to do all that it is asked for, and `Plainly` what it does with a plan without conditions. What a command
-//! line asks for is said by `command_line`, what a report is by `report_laws`.
+//! end, `Generated` which generated graph is run and what is written of it, `Counted` what a count of lines comes to,
+//! `Answers` how a call ends, `Completion` what it needs to do all that it is asked for, and `Plainly` what it does
+//! with a plan without conditions. What a command line asks for is said by `command_line`, what a report is by
+//! `report_laws`.
 #![tactic(auto)]
 
 mod call;

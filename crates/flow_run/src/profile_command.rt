@@ -106,7 +106,8 @@ fn failed_at_once(ran: &RoundsRun) -> bool
     ran.runs.is_empty() && !ran.whole
 }
 
-// The profile of these rounds of a graph whose tasks have these names, the last of which came to its end for this reason.
+// The profile of these rounds of a graph whose tasks have these names, the last of which came to its end for this
+// reason.
 fn counts_of(
     alloc: Global,
     names: List<Bytes>,

@@ -85,8 +85,8 @@ fn run_and_report<S: Sink, R: Threads + Wait + Sync>(
     after_runs(runs, status, written.is_ok())
 }
 
-// Writes the reports of these rounds, or their journals, in order, and all that is held back of them. Where there is none the
-// output is left alone.
+// Writes the reports of these rounds, or their journals, in order, and all that is held back of them. Where there is
+// none the output is left alone.
 fn deliver_rounds<S: Sink>(
     alloc: Global,
     out: &mut S,

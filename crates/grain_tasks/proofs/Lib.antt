@@ -6,3 +6,4 @@ pub mod Totals
 pub mod RowSteps
 pub mod CutLemmas
 pub mod ReduceLemmas
+pub mod FineRuns

@@ -38,7 +38,7 @@ use Rattle.grain_tasks.specs.inside.Gathering.{EndWithChunks}
 
 -- ---- lists
 
-abbrev one : Bool → ℕ
+abbrev pub one : Bool → ℕ
 one b = cond b 1 0
 
 module _ {X : Type 0} where
@@ -128,7 +128,7 @@ pub record HasValues {J V : Type 0} (meaning : Meaning J V) (job : J) (value : �
   pub source : (t : ℕ) → t < length (meaning.net job).tasks → IsSource (meaning.net job) t
 
 module _ {J V : Type 0} (meaning : Meaning J V) where
-  legal_journal : (run : FrameRun J V) → Legal meaning run → LegalJournal meaning run
+  pub legal_journal : (run : FrameRun J V) → Legal meaning run → LegalJournal meaning run
   legal_journal (FrameRun' job journal values shape rows) legal = legal.0
 
   module _ (run : FrameRun J V) (value : ℕ → V) (kept : IsKept meaning run) (fine : IsFine (journal_of run)) (has : HasValues meaning (job_of run) value) where

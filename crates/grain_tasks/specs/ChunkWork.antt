@@ -3,7 +3,11 @@ use Rattle.std.specs.Prelude.{◌≡◌, ℕ, max, ◌<◌, ◌≤◌}
 use Rattle.run_frame.specs.declared.job.Answer.TheVariants.{All}
 use Rattle.run_frame.specs.declared.job.Done.{Done}
 use Rattle.run_frame.specs.declared.job.Done.TheVariants.{Value, Inner as InnerJob}
+use Rattle.run_frame.specs.declared.run.FrameRun.{FrameRun}
+use Rattle.run_frame.specs.Legal.{IsKept}
 use Rattle.run_frame.specs.Meaning.{Meaning}
+use Rattle.run_frame.specs.NestedRule.{journal_of}
+use Rattle.run_frame.specs.Runs.{IsFine}
 use Rattle.nested_runs.specs.Spreads.{part_limit, spread_net}
 use Rattle.grain_tasks.specs.declared.errors.GrainError.{GrainError}
 use Rattle.grain_tasks.specs.declared.errors.GrainError.TheVariants.{ZeroGrain, TooMany, NoMemory}
@@ -45,6 +49,10 @@ chunk_job folding = record {
   gather_faults = λ work run why. ⊥;
   follows = λ work run next. ⊥;
 }
+
+-- Nothing is cut short in a legal and complete run of such a job, so each can be gathered.
+abbrev pub RunsAreFine : {F V : Type 0} → Folding F V → Type 0
+RunsAreFine {F} {V} folding = (run : FrameRun (ChunkWork F) V) → IsKept (chunk_job folding) run → IsFine (journal_of run)
 
 -- a job of so many indices, cut into chunks of so many, can be made
 pub record TakesJob (count grain : ℕ) : Type 0 where

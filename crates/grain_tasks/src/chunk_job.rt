@@ -1,7 +1,7 @@
 // Static chunks as a job.
 ghost use Rattle.std.specs.Prelude.{◌≡◌, ◌≤◌, IfOk, IfErr, OnOk};
 ghost use Rattle.std.specs.Arc.{arc_value};
-ghost use Rattle.grain_tasks.specs.ChunkWork.{RefusesJob, TakesJob, chunk_work};
+ghost use Rattle.grain_tasks.specs.ChunkWork.{RefusesJob, RunsAreFine, TakesJob, chunk_work};
 ghost use Rattle.grain_tasks.specs.Folds.{plain_fold};
 ghost use Rattle.grain_tasks.specs.inside.Gathering.{AreChunkValues, EndWithChunks};
 
@@ -133,6 +133,13 @@ where
     ghost faults_own = { chunk_faults_own F.folding };
 
     ghost gather_faults_own = { chunk_gather_faults_own F.folding };
+}
+
+/// Nothing is cut short in a legal and complete run of a job of static chunks.
+pub fn runs_of_chunks_are_fine<F: Fold>(fold: &F)
+    ensures { RunsAreFine F.folding }
+{
+    let _fold = fold;
 }
 
 // Joins what the tasks of a run ended with, in the order of their chunks.

@@ -28,14 +28,15 @@ pub trait Fold {
         requires { index < folding.count self.now }
         ensures { IfOk result (λ v. v ≡ folding.at self.now index) };
 
-    /// Joins two allowed values, of which the left one is of lower indices. A list that is the left one can be added to.
+    /// Joins two allowed values, of which the left one is of lower indices. A list that is the left one can be added
+    /// to.
     fn join(&self, alloc: Global, left: Self::V, right: &Self::V) -> Result<Self::V, NoMemory>
         requires left { folding.allowed self.now left }
         requires right { folding.allowed self.now right.now }
         ensures { IfOk result (λ v. v ≡ folding.join self.now left right.now) };
 
-    /// The unit joined with the values at the indices of a chunk, in order: one by one, unless a fold of this type knows
-    /// a faster way.
+    /// The unit joined with the values at the indices of a chunk, in order: one by one, unless a fold of this type
+    /// knows a faster way.
     #[tactic(auto, using(crate::proofs::FoldLemmas::fold_from_more, crate::proofs::FoldLemmas::fold_from_none))]
     fn fold_chunk(&self, alloc: Global, chunk: Chunk) -> Result<Self::V, NoMemory>
         requires order { chunk.from ≤ chunk.to }

@@ -4,8 +4,8 @@
 //! join is associative and the unit is neutral. Its plain fold is the unit joined with the values at 0, 1 and so
 //! on, in order. A for-each and a transform are folds whose join is concatenation.
 //!
-//! - `ChunkJob`: static chunks, each a task of a job without edges. What a finished run of it is gathered to is the
-//!   plain fold.
+//! - `ChunkJob`: static chunks, each a task of a job without edges. Nothing is cut short in a finished run of it, and
+//!   what that is gathered to is the plain fold.
 //! - `ChunkRow`: chunks that several seats draw, each by one addition on one atomic word. Where all seats found the
 //!   row drawn and what they drew is gathered, their chunks have each index once and no other.
 //! - `reduce_drawn`: several threads draw chunks of a row and fold them, and the results are joined in the order of
@@ -33,7 +33,7 @@ mod row;
 mod row_view;
 
 pub use chunk::Chunk;
-pub use chunk_job::ChunkJob;
+pub use chunk_job::{ChunkJob, runs_of_chunks_are_fine};
 pub use errors::GrainError;
 pub use fold::{Fold, chunks_join};
 pub use reduce::reduce_drawn;

@@ -165,8 +165,23 @@ fn gather_all<F: Fold>(
     Ok(all)
 }
 
-/// The fold of the first `count` indices by several workers, each of which draws chunks of `grain` indices: the
-/// plain fold, whatever the grain and the workers are and however their turns fall.
+// So many chunks for each worker let a slow one take fewer. More of them take longer to draw and to join.
+const CHUNKS_FOR_EACH: u64 = 256;
+
+// How many indices are drawn at once: `grain`, or more where there would be too many chunks.
+fn drawn_grain(count: u64, grain: u64, workers: u32) -> u64
+    requires some { 1 ≤ workers }
+    requires few { workers ≤ 16 }
+    requires grain { (1 ≤ grain) × (grain ≤ 1000000) }
+    ensures { (grain ≤ result) × (result ≤ 1000000) }
+{
+    let most = u64::from(workers) * CHUNKS_FOR_EACH;
+    grain.max(count.div_ceil(most).min(1000000))
+}
+
+/// The fold of the first `count` indices by several workers, each of which draws chunks of at least `grain` indices, and
+/// of more where there would be some hundred chunks for each worker: the plain fold, whatever the grain and the workers
+/// are and however their turns fall.
 pub fn reduce_drawn<R: Threads + Sync, F: Fold + Send + Sync>(
     rt: &R,
     alloc: Global,
@@ -186,7 +201,11 @@ where
     ensures taken { OnOk result (1 ≤ grain) }
     ensures refused { IfErr result (RefusesRow grain) }
 {
-    let RowParts { row, draws } = ChunkRow::new(alloc, count, grain, workers)?;
+    if grain == 0 {
+        return Err(GrainError::ZeroGrain);
+    }
+    let drawn = drawn_grain(count, grain, workers);
+    let RowParts { row, draws } = ChunkRow::new(alloc, count, drawn, workers)?;
     let results = fold_all(rt, alloc, &row, fold, draws)?;
     let folded = gather_all(&row, fold, results)?;
     let value = join_parts(alloc, fold, count, folded.parts)?;

@@ -9,7 +9,7 @@ use Rattle.std.proofs.lemmas.List.{drop-drop, drop_all, length_push}
 use Rattle.text_ops.specs.Lines.{line_end, lines_of, IsNormal}
 use Rattle.text_ops.specs.LineParts.{IsCut}
 use Rattle.text_ops.proofs.LineLemmas.{lines_of-append, IsNormal-append, IsNormal-drop, text_of-lines_of, normal_same}
-use Rattle.line_folds.specs.inside.Marks.{AreMarks, step}
+use Rattle.line_folds.specs.inside.Marks.{AreLineMarks, mark_step}
 
 -- what is behind a place, as code cuts it off
 pub behind : (text : List ℕ) (place : ℕ) → between place (length text) text ≡ drop place text
@@ -37,6 +37,24 @@ IsCut-further text m n place gap here there =
       behind = sym (drop-drop n m lines) ∙ ap (drop n) here.behind ∙ there.behind ∙ ap lines_of (drop-drop gap place text);
     }
 
+-- a text that isn't empty has a line
+pub some_line : (text : List ℕ) → IsNormal text → 0 < length text → 0 < length (lines_of text)
+some_line text is some = by_lines (lines_of text) (text_of-lines_of text ∙ normal_same text is)
+  where
+    by_lines : (lines : List (List ℕ)) → Rattle.text_ops.specs.Lines.text_of lines ≡ text → 0 < length lines
+    by_lines [] same = absurd (omega (arith, some, ap length same))
+    by_lines (line ∷ lines) same = omega arith
+
+-- behind a place before the end of a text there are more lines
+pub more_lines : (text : List ℕ) (n at : ℕ) → IsNormal text → IsCut text n at → at < length text → n < length (lines_of text)
+more_lines text n at is cut before =
+    let rest = some_line (drop at text) (IsNormal-drop text at is) (omega (arith, before, length-drop at text)) in
+    omega (arith, rest, ap length cut.behind, length-drop n (lines_of text))
+
+-- the lines before a place and those from there on
+pub lines_counted : (text : List ℕ) (n at : ℕ) → IsCut text n at → n ≤ length (lines_of text) → n + length (lines_of (drop at text)) ≡ length (lines_of text)
+lines_counted text n at cut within = omega (arith, within, ap length cut.behind, length-drop n (lines_of text))
+
 -- the first lines of a text that isn't empty have a byte
 pub IsCut-moves : (text : List ℕ) (n place : ℕ) → IsNormal text → 0 < length text → 0 < n → IsCut text n place → 0 < place
 IsCut-moves [] n place is some more cut = absurd (omega arith)
@@ -61,15 +79,15 @@ lines_le (byte ∷ rest) = by_test (Rattle.std.proofs.Common.◌==◌ byte line_
     by_test false few = onto_le (lines_of rest) few
 
 -- the places so far, and one more
-pub each_more : (text marks : List ℕ) (at : ℕ) → ((k : ℕ) → k < length marks → IsCut text (k * step) (get_or marks k 0)) → IsCut text (length marks * step) at
-    → (k : ℕ) → k < length (marks ++ at ∷ []) → IsCut text (k * step) (get_or (marks ++ at ∷ []) k 0)
+pub each_more : (text marks : List ℕ) (at : ℕ) → ((k : ℕ) → k < length marks → IsCut text (k * mark_step) (get_or marks k 0)) → IsCut text (length marks * mark_step) at
+    → (k : ℕ) → k < length (marks ++ at ∷ []) → IsCut text (k * mark_step) (get_or (marks ++ at ∷ []) k 0)
 each_more text marks at each last k below =
     ⊎_elim
-    (λ before. subst (IsCut text (k * step)) (sym (get_or-append marks (at ∷ []) 0 k before)) (each k before))
+    (λ before. subst (IsCut text (k * mark_step)) (sym (get_or-append marks (at ∷ []) 0 k before)) (each k before))
     (λ behind.
     let same : k ≡ length marks = omega (arith, behind, below, length_push marks at) in
-    subst (λ j. IsCut text (j * step) (get_or (marks ++ at ∷ []) j 0)) (sym same)
-    (subst (IsCut text (length marks * step)) (sym (get_or-append_seam marks at [] 0)) last))
+    subst (λ j. IsCut text (j * mark_step) (get_or (marks ++ at ∷ []) j 0)) (sym same)
+    (subst (IsCut text (length marks * mark_step)) (sym (get_or-append_seam marks at [] 0)) last))
     (cases_lt k (length marks))
 
 -- at the end of the text there are no more lines

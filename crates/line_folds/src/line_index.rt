@@ -2,15 +2,15 @@
 ghost use Rattle.std.specs.Prelude.{◌≡◌, ◌*◌, ◌≤◌, IfNone, IfOk, IfSome, drop, length};
 ghost use Rattle.text_ops.specs.Lines.{IsNormal, lines_of};
 ghost use Rattle.text_ops.specs.LineParts.{IsCut};
-ghost use Rattle.line_folds.specs.inside.Marks.{AreMarks, step};
+ghost use Rattle.line_folds.specs.inside.Marks.{AreLineMarks, mark_step};
 
 use outside_io::NoMemory;
 use std::alloc::Global;
 use std::marker::Model;
-use text_ops::{Text, end_of_first, line_count};
+use text_ops::{Text, end_of_first, slice_line_count};
 
-// A place is kept for each of so many lines.
-const STEP: u64 = 64;
+// A place is kept for each of so many lines. More places take longer to find than the walks from them do.
+const STEP: u64 = 1024;
 
 /// A text with the places of some of its lines, by which any line is found without a walk over those before it.
 /// Contracts see it as the bytes of the text.
@@ -18,7 +18,7 @@ const STEP: u64 = 64;
 pub struct LineIndex<'t> {
     text: &'t [u8],
     lines: u64,
-    // Where each 64th line begins, the first one's place first.
+    // Where each 1,024th line begins, the first one's place first.
     marks: Vec<usize>,
 }
 
@@ -27,22 +27,22 @@ impl<'t> Model for LineIndex<'t> {
 
     ghost Value = { List ℕ };
 
-    ghost use Rattle.line_folds.specs.inside.Marks.{IsIndex};
+    ghost use Rattle.line_folds.specs.inside.Marks.{IsLineIndex};
 
     ghost view = { λ index. index.text.now };
 
-    ghost invariant = { λ index. IsIndex index.text.now index.lines index.marks.items };
+    ghost invariant = { λ index. IsLineIndex index.text.now index.lines index.marks.items };
 }
 
 impl<'t> LineIndex<'t> {
-    /// The index of a text. It takes a word of memory for 64 lines.
+    /// The index of a text. It takes a word of memory for 1,024 lines.
     pub fn new(alloc: Global, text: &'t Text) -> Result<LineIndex<'t>, NoMemory>
         ensures index { IfOk result (λ index. index ≡ text.entry.now) }
         ensures few { IfOk result (λ _. length (lines_of text.entry.now) ≤ 18446744073709551615) }
     {
-        let lines = line_count(text);
         let text = text.as_slice();
         let marks = marks_of(alloc, text)?;
+        let lines = lines_by_marks(text, marks.as_slice());
         Ok(LineIndex { text, lines, marks })
     }
 
@@ -66,19 +66,31 @@ impl<'t> LineIndex<'t> {
         &rest[end_of_first(rest, n % STEP)..]
     }
 
-    // Where the line numbered 64 * `k` begins, if the text has it.
+    // Where the line numbered 1,024 * `k` begins, if the text has it.
     fn mark(&self, k: u64) -> Option<usize>
-        ensures found { IfSome result (IsCut self.now (k * step)) }
-        ensures none { IfNone result (length (lines_of self.now) ≤ k * step) }
+        ensures found { IfSome result (IsCut self.now (k * mark_step)) }
+        ensures none { IfNone result (length (lines_of self.now) ≤ k * mark_step) }
     {
         Some(*self.marks.get(k as usize)?)
     }
 }
 
-// Where each 64th line of a text begins.
+// How many lines a text has: those before the last place, and those from there on.
+fn lines_by_marks(text: &[u8], marks: &[usize]) -> u64
+    requires normal { IsNormal text.now }
+    requires marks { AreLineMarks text.now marks.now }
+    ensures { result ≡ length (lines_of text.now) }
+{
+    match marks.last() {
+        Some(last) => (marks.len() - 1) as u64 * STEP + slice_line_count(&text[*last..]),
+        None => 0,
+    }
+}
+
+// Where each 1,024th line of a text begins.
 fn marks_of(alloc: Global, text: &[u8]) -> Result<Vec<usize>, NoMemory>
     requires { IsNormal text.now }
-    ensures { IfOk result (λ marks. AreMarks text.now marks.items) }
+    ensures { IfOk result (λ marks. AreLineMarks text.now marks.items) }
 {
     let mut marks = Vec::new(alloc);
     let mut at = 0;

@@ -12,8 +12,8 @@ use std::marker::Model;
 use std::thread::Threads;
 use text_ops::{Text, WordSearch, end_of_first};
 
-/// The fold of a word over the lines of a text: its value at a line is 1 where the word occurs in it, else 0, and values
-/// are added up. Contracts see it as the word and the text.
+/// The fold of a word over the lines of a text: its value at a line is 1 where the word occurs in it, else 0, and
+/// values are added up. Contracts see it as the word and the text.
 #[derive(Drop)]
 pub struct WordFold<'t> {
     search: WordSearch<'t>,
@@ -86,8 +86,8 @@ impl<'t> Fold for WordFold<'t> {
     ghost lawful = { word_fold_lawful };
 }
 
-/// In how many lines of a text the word occurs, by several workers, each of which draws chunks of `grain` lines. The empty
-/// word occurs in every line, and one with a line end in none.
+/// In how many lines of a text the word occurs, by several workers, each of which draws chunks of at least `grain` lines.
+/// The empty word occurs in every line, and one with a line end in none.
 pub fn count_lines_with<R: Threads + Sync>(
     rt: &R,
     alloc: Global,

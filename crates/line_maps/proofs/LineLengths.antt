@@ -15,7 +15,7 @@ use Rattle.text_ops.proofs.KeepLemmas.{lines_plain}
 use Rattle.text_ops.proofs.LineLemmas.{lines_of-ended, normal_same, text_of-lines_of}
 use Rattle.text_ops.specs.Values.{value_limit}
 use Rattle.text_tasks.specs.OpMeaning.{text_op_value}
-use Rattle.line_maps.specs.LineMaps.{text_limit}
+use Rattle.line_maps.specs.LineMaps.{line_map_limit}
 
 none_digit : decimal 0 ≡ 48 ∷ []
 unfolding digits
@@ -104,7 +104,7 @@ module _ (text rest : List ℕ) (i end : ℕ) (below : i < length (lines_of text
       sym (normal_same (take end rest) cut.whole) ∙ sym (text_of-lines_of (take end rest)) ∙ ap text_of (sym cut.before ∙ only) ∙ append-nil (ended line_at)
 
   -- what an operation makes of it isn't too long
-  pub line_value_short : (op : TextOp) → length text ≤ text_limit → length (text_op_value op (take end rest)) ≤ value_limit
+  pub line_value_short : (op : TextOp) → length text ≤ line_map_limit → length (text_op_value op (take end rest)) ≤ value_limit
   line_value_short op few =
       let plain = all_at IsPlain (lines_of text) i [] below (lines_plain text) in
       let long = all_at (λ line. length line ≤ length text) (lines_of text) i [] below (lines_short text) in

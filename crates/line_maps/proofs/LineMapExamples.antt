@@ -3,7 +3,7 @@ use Rattle.std.proofs.Common.{◌≡◌, List, ℕ, [], ◌∷◌, refl, codes}
 use Rattle.std.specs.Fmt.{digits}
 use Rattle.graph_plans.specs.declared.ops.TextOp.TheVariants.{Pass, Keep, Count, Tally}
 use Rattle.grain_tasks.specs.Folds.{plain_fold}
-use Rattle.line_maps.specs.LineMaps.{line_map, mapping, text_limit}
+use Rattle.line_maps.specs.LineMaps.{line_map, mapping, line_map_limit}
 
 abbrev three : List ℕ
 three = codes "b\nab\nc\n"
@@ -11,7 +11,7 @@ three = codes "b\nab\nc\n"
 of_an_operation_and_a_text : ((line_map Pass three).op ≡ Pass) × ((line_map Pass three).text ≡ three)
 of_an_operation_and_a_text = (refl, refl)
 
-longest_text : text_limit ≡ 16777213
+longest_text : line_map_limit ≡ 16777213
 longest_text = refl
 
 lines_mapped : mapping.count (line_map Pass three) ≡ 3

@@ -15,8 +15,8 @@ abbrev pub line_map : TextOp → List ℕ → LineMap
 line_map op text = record { op = op; text = text }
 
 -- the most bytes of a text, of which no line has a value that is too long
-abbrev pub text_limit : ℕ
-text_limit = 16777213
+abbrev pub line_map_limit : ℕ
+line_map_limit = 16777213
 
 -- what the operation makes of each line, one behind the other
 abbrev pub mapping : Folding LineMap (List ℕ)

@@ -1,6 +1,6 @@
 // An operation on each line of a text.
 ghost use Rattle.std.specs.Prelude.{◌≡◌, ◌≤◌, IfOk, length};
-ghost use Rattle.line_maps.specs.LineMaps.{line_map};
+ghost use Rattle.line_maps.specs.LineMaps.{line_map, line_map_limit};
 
 use grain_tasks::Fold;
 use graph_plans::TextOp;
@@ -21,19 +21,19 @@ pub struct LineFold<'t> {
 
 impl<'t> Model for LineFold<'t> {
     ghost use Rattle.std.specs.Prelude.{◌≤◌, length};
-    ghost use Rattle.line_maps.specs.LineMaps.{LineMap, line_map, text_limit};
+    ghost use Rattle.line_maps.specs.LineMaps.{LineMap, line_map, line_map_limit};
 
     ghost Value = { LineMap };
 
     ghost view = { λ fold. line_map fold.op fold.index };
 
-    ghost invariant = { λ fold. length fold.index ≤ text_limit };
+    ghost invariant = { λ fold. length fold.index ≤ line_map_limit };
 }
 
 impl<'t> LineFold<'t> {
     /// The fold of an operation over the lines of a text, which is short enough that no value of a line is too long.
     pub fn new(alloc: Global, op: TextOp, text: &'t Text) -> Result<LineFold<'t>, NoMemory>
-        requires { length text.now ≤ 16777213 }
+        requires { length text.now ≤ line_map_limit }
         ensures { IfOk result (λ fold. fold ≡ line_map op text.entry.now) }
     {
         let index = LineIndex::new(alloc, text)?;

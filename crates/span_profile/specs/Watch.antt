@@ -2,6 +2,7 @@
 use Rattle.std.specs.Prelude.{◌≡◌, ℕ, ◌+◌, ◌-◌, ◌^◌, List, min}
 use Rattle.journal_rules.specs.declared.span.Span.{Span}
 use Rattle.span_profile.specs.declared.span_count.SpanCount.{SpanCount}
+use Rattle.span_profile.specs.declared.span_fuse.SpanFuse.{SpanFuse}
 use Rattle.span_profile.specs.declared.span_list.SpanList.{SpanList}
 
 -- one more, up to the greatest number of 64 bits
@@ -11,6 +12,13 @@ one_more n = min (n + 1) (2 ^ 64 - 1)
 -- how many spans the watcher that only counts was told
 abbrev pub counted : SpanCount → ℕ
 counted watcher = watcher.count
+
+-- how many spans the watcher that refuses some was told and has counted, and how many it counts before it refuses one
+abbrev pub passed : SpanFuse → ℕ
+passed watcher = watcher.count
+
+abbrev pub fuse : SpanFuse → ℕ
+fuse watcher = watcher.passes
 
 -- the spans that the watcher that keeps them was told
 abbrev pub listed : SpanList → List Span

@@ -6,9 +6,11 @@
 
 mod boxed;
 mod span_count;
+mod span_fuse;
 mod span_list;
 mod watch;
 
 pub use span_count::SpanCount;
+pub use span_fuse::SpanFuse;
 pub use span_list::SpanList;
 pub use watch::Watch;

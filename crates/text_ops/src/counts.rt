@@ -1,6 +1,6 @@
 // The number of lines.
 ghost use Rattle.std.specs.Prelude.{◌≡◌, ◌∷◌, [], decimal, length};
-ghost use Rattle.text_ops.specs.Lines.{lines_of, text_of};
+ghost use Rattle.text_ops.specs.Lines.{IsNormal, lines_of, text_of};
 ghost use Rattle.text_ops.specs.TextMeaning.{count_meaning};
 ghost use Rattle.text_ops.specs.Values.{Makes};
 
@@ -15,7 +15,15 @@ use std::alloc::Global;
 pub fn line_count(text: &Text) -> u64
     ensures { result ≡ length (lines_of text.now) }
 {
-    line_ends(text.as_slice()) as u64
+    slice_line_count(text.as_slice())
+}
+
+/// How many lines these bytes have, which are those of a text.
+pub fn slice_line_count(text: &[u8]) -> u64
+    requires { IsNormal text.now }
+    ensures { result ≡ length (lines_of text.now) }
+{
+    line_ends(text) as u64
 }
 
 /// One line, the number of lines of the text in decimal.

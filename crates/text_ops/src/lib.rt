@@ -32,7 +32,7 @@ mod text;
 mod text_parts;
 mod word_search;
 
-pub use counts::{count, count_line, line_count};
+pub use counts::{count, count_line, line_count, slice_line_count};
 pub use cuts::{end_of_first, head, skip, tail};
 pub use gathered::{ApplyError, VALUE_LIMIT};
 pub use joined::Joined;

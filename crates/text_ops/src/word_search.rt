@@ -38,7 +38,8 @@ impl<'w> WordSearch<'w> {
         }
     }
 
-    /// In how many lines of a text the word occurs. The empty word occurs in every line, and one with a line end in none.
+    /// In how many lines of a text the word occurs. The empty word occurs in every line, and one with a line end in
+    /// none.
     pub fn lines_with(&self, text: &[u8]) -> u64
         requires { IsNormal text.now }
         ensures { result ≡ word_lines self.now text.now }
