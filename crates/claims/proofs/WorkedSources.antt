@@ -15,7 +15,7 @@ use Rattle.join_words.specs.declared.ins.Ins.{Ins}
 use Rattle.join_words.specs.Ins.{value, first, nothing, found_of, parts_of, room_of}
 use Rattle.std.specs.declared.vec.Vec.{Vec}
 use Rattle.journal_rules.specs.declared.span.Span.{Span}
-use Rattle.span_profile.specs.Watch.{IsToldSince, TellsOn, one_more, counted, listed}
+use Rattle.span_profile.specs.Watch.{IsToldSince, TellsOn, counted, fuse, listed, one_more, passed}
 use Rattle.span_profile.specs.declared.span_count.SpanCount.{SpanCount}
 
 -- A text of just the most bytes is found whole, and one of more is longer.
@@ -154,6 +154,9 @@ counts_on = (refl, refl, refl)
 
 told_so_far : counted (record { count = 7 }) ≡ 7
 told_so_far = refl
+
+told_to_a_fuse : (passed (record { count = 3; passes = 7 }) ≡ 3) × (fuse (record { count = 3; passes = 7 }) ≡ 7)
+told_to_a_fuse = (refl, refl)
 
 told_in_order : (one two : Span) (spans : Vec Span Global) → spans.items ≡ one ∷ two ∷ [] → listed (record { spans = spans }) ≡ one ∷ two ∷ []
 told_in_order one two spans is = is

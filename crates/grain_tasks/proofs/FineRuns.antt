@@ -1,6 +1,6 @@
 -- Nothing is cut short in a finished run of static chunks.
-use Rattle.std.proofs.Common.{◌≡◌, ◌≢◌, ◌⊎◌, inl, inr, ℕ, zero, suc, ◌+◌, ◌<◌, ◌≤◌, max, Bool, true, false, cond, eqb, List, [], ◌∷◌, ◌++◌, length, Option, Some, None, refl, sym, ap, ◌∙◌, subst, arith}
-use Rattle.std.specs.Prelude.{◌&&◌, ◌||◌, count_by, replicate, slice_get, IsSomeAnd}
+use Rattle.std.proofs.Common.{◌≡◌, ◌≢◌, ◌⊎◌, inl, inr, ℕ, ◌+◌, ◌<◌, ◌≤◌, max, Bool, true, false, eqb, List, [], ◌∷◌, length, Option, Some, None, refl, sym, ap, ◌∙◌, subst, arith}
+use Rattle.std.specs.Prelude.{◌&&◌, ◌||◌, count_by, slice_get, IsSomeAnd}
 use Rattle.std.specs.List.{AllByRecursion, IsDistinct, list_any}
 use Rattle.std.proofs.Math.Bool.{and-true}
 use Rattle.std.proofs.lemmas.Bool.{cases_eq, false≢true}
@@ -9,15 +9,14 @@ use Rattle.std.proofs.lemmas.List.{length-replicate}
 use Rattle.std.proofs.lemmas.List.Sums.{sum_by-cons}
 use Rattle.std.proofs.lemmas.Map.Steps.{length-le_from_distinct_below}
 use Rattle.task_graph.specs.NetRows.{NetRows}
-use Rattle.journal_rules.specs.declared.entry.DropWhy.{DropWhy}
 use Rattle.journal_rules.specs.declared.entry.DropWhy.TheVariants.{Halted, Limit, Stuck}
 use Rattle.journal_rules.specs.declared.entry.Entry.{Entry}
 use Rattle.journal_rules.specs.declared.entry.Entry.TheVariants.{Start, End, Fault, Drop}
 use Rattle.journal_rules.specs.declared.entry.Why.{Why}
 use Rattle.journal_rules.specs.declared.entry.Why.TheVariants.{Long, Wide, Unmet, Inner, OverRelease}
 use Rattle.journal_rules.specs.Complete.{is_limited, is_limit_why}
-use Rattle.journal_rules.specs.Counts.{faults, is_fault, is_start, starts}
-use Rattle.journal_rules.specs.HaltLimitStuckRule.{is_stuck, is_stuck_why}
+use Rattle.journal_rules.specs.Counts.{is_fault, is_start, starts}
+use Rattle.journal_rules.specs.HaltLimitStuckRule.{is_stuck}
 use Rattle.journal_rules.specs.OnceNets.{IsOnceNet}
 use Rattle.journal_rules.specs.ShapeLegal.{MayFollow, ShapeLegal}
 use Rattle.journal_rules.proofs.OnceGiven.{used_once, uses_one}
@@ -34,13 +33,13 @@ use Rattle.grain_tasks.proofs.RunLemmas.{counted_at, legal_journal, met_at, one}
 -- ---- the tasks whose releases are used
 
 -- the task of an entry that uses a release, before these
-after : Entry → List ℕ → List ℕ
+abbrev after : Entry → List ℕ → List ℕ
 after (Start task cause ins) tasks = task ∷ tasks
 after (End start gives inner) tasks = tasks
 after (Fault start why) tasks = tasks
 after (Drop task cause why) tasks = task ∷ tasks
 
-used_tasks : List Entry → List ℕ
+abbrev used_tasks : List Entry → List ℕ
 used_tasks [] = []
 used_tasks (x ∷ h) = after x (used_tasks h)
 
@@ -109,6 +108,7 @@ none_used (x ∷ h) t none = by_entry x none (none_used h t)
 
 -- where each is counted once at most they differ
 used_differ : (h : List Entry) → ((t : ℕ) → count_by (uses_one t) h ≤ 1) → IsDistinct eqb (used_tasks h)
+unfolding IsDistinct
 used_differ [] once = tt
 used_differ (x ∷ h) once = by_entry x once (used_differ h (λ t. omega (arith, once t, split t x)))
   where
