@@ -1,6 +1,7 @@
 -- Where lines begin.
 use Rattle.std.proofs.Common.{◌≡◌, ℕ, zero, suc, ◌+◌, ◌*◌, ◌-◌, ◌<◌, ◌≤◌, Bool, true, false, cond, List, [], ◌∷◌, ◌++◌, length, take, drop, get_or, refl, sym, ap, subst, ◌∙◌, arith, ⊎_elim, length-append, length-take, length-drop}
 use Rattle.std.specs.List.{between, onto_first}
+use Rattle.std.specs.Prelude.{slice_index}
 use Rattle.std.proofs.lemmas.Slice.{between_to_end}
 use Rattle.std.proofs.Math.Seq.{take-add, get_or-append_seam}
 use Rattle.std.proofs.Math.ListN.{get_or-append}
@@ -95,3 +96,15 @@ pub no_more : (text : List ℕ) (n at : ℕ) → IsCut text n at → length text
 no_more text n at cut end =
     let none = cut.behind ∙ ap lines_of (drop_all at text end) in
     omega (arith, ap length none, length-drop n (lines_of text))
+
+-- the lines before the last place of an index
+pub lines_before : (text marks : List ℕ) → AreLineMarks text marks → 0 < length marks → (length marks - 1) * mark_step ≤ length (lines_of text)
+lines_before text marks are some = omega (arith, some, are.none_behind)
+
+-- and all lines, with those from there on
+pub lines_marked : (text marks : List ℕ) (place rest : ℕ) → AreLineMarks text marks → 0 < length marks → place ≡ slice_index marks (length marks - 1) → rest ≡ length (lines_of (between place (length text) text))
+    → (length marks - 1) * mark_step + rest ≡ length (lines_of text)
+lines_marked text marks place rest are some is counted =
+    let n = (length marks - 1) * mark_step in
+    let cut : IsCut text n place = subst (IsCut text n) (sym is) (are.each (length marks - 1) (omega (arith, some))) in
+    omega (arith, counted, ap (λ l. length (lines_of l)) (behind text place), lines_counted text n place cut (lines_before text marks are some))

@@ -34,6 +34,6 @@ loop-at-preserved c =
     let more : length marks * mark_step + mark_step ≡ length (marks ++ at ∷ []) * mark_step = omega (arith, length_push marks at) in
     subst
     (λ items. ((k : _) → k < length items → IsCut text (k * mark_step) (slice_index items k)) × IsCut text (length items * mark_step) (at + c.end_of_first-at.result)
-        × (length items * mark_step < length (lines_of text) + mark_step))
+    × (length items * mark_step < length (lines_of text) + mark_step))
     (sym c.in_ok-push.ensures.items)
     (each_more text marks at c.loop-at.invariant.0 c.loop-at.invariant.1, subst (λ n. IsCut text n (at + c.end_of_first-at.result)) more further, omega (arith, behind_last, more))
