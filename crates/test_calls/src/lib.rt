@@ -3,10 +3,11 @@
 //! Each call is one of `flow_main` over texts and sinks in memory, and a row of a table (`calls.rt` says how one is
 //! written): its words, the texts that it finds, what fails in it, and what is seen of it, which is the exit code, how
 //! many entries the journal of each kept run has, whether the judge doesn't find it complete, or that of a run inside
-//! it, what both sinks took, and whether the watchers didn't come back in their order, or were told other than the spans
-//! of the kept runs. `tables.rt` walks the tables of all other modules, but for `gates.rt`, whose watchers wait for one
-//! another, for `told_spans.rt`, which asks for the very spans, and for `random_pipes.rt`, whose rows are drawn. The line
-//! of a status that no call here ends with is written by itself.
+//! it, what both sinks took, and whether the watchers didn't come back in their order, or were told other than the
+//! spans of the kept runs. `tables.rt` walks the tables of all other modules, but for `gates.rt`, whose watchers wait
+//! for one another, for `fuses.rt`, in which one refuses a span, for `told_spans.rt`, which asks for the very spans,
+//! and for `random_pipes.rt`, whose rows are drawn. The line of a status that no call here ends with is written by
+//! itself.
 #![tactic(auto)]
 
 #[cfg(test)]
@@ -23,6 +24,8 @@ mod dice;
 mod drawn_pipes;
 #[cfg(test)]
 mod faults;
+#[cfg(test)]
+mod fuses;
 #[cfg(test)]
 mod gates;
 #[cfg(test)]
