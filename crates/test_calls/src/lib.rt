@@ -5,9 +5,8 @@
 //! many entries the journal of each kept run has, whether the judge doesn't find it complete, or that of a run inside
 //! it, what both sinks took, and whether the watchers didn't come back in their order, or were told other than the
 //! spans of the kept runs. `tables.rt` walks the tables of all other modules, but for `gates.rt`, whose watchers wait
-//! for one another, for `fuses.rt`, in which one refuses a span, for `told_spans.rt`, which asks for the very spans,
-//! and for `random_pipes.rt`, whose rows are drawn. The line of a status that no call here ends with is written by
-//! itself.
+//! for one another, for `fuses.rt`, in which one refuses a span, and for `told_spans.rt`, which asks for the very
+//! spans. The line of a status that no call here ends with is written by itself.
 #![tactic(auto)]
 
 #[cfg(test)]
@@ -18,10 +17,6 @@ mod calls;
 mod check_calls;
 #[cfg(test)]
 mod count_calls;
-#[cfg(test)]
-mod dice;
-#[cfg(test)]
-mod drawn_pipes;
 #[cfg(test)]
 mod faults;
 #[cfg(test)]
@@ -49,8 +44,6 @@ mod pipe_starts;
 #[cfg(test)]
 mod profile_calls;
 #[cfg(test)]
-mod random_pipes;
-#[cfg(test)]
 mod refused_spans;
 #[cfg(test)]
 mod round_calls;
@@ -62,8 +55,6 @@ mod runs;
 mod seen_runs;
 #[cfg(test)]
 mod semaphore_calls;
-#[cfg(test)]
-mod slow_pipes;
 #[cfg(test)]
 mod tables;
 #[cfg(test)]
