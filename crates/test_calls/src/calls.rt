@@ -101,8 +101,8 @@ fn filled(alloc: Global, pattern: &str, row: &str) -> Result<String, AllocError>
     Ok(filled)
 }
 
-/// The first call of a row, by each number of workers that a star in its words stands for, that isn't as it says, with
-/// what was seen; or nothing.
+// The first call of a row, by each number of workers that a star in its words stands for, that isn't as it says, with
+// what was seen; or nothing.
 fn first_by_workers<R: Threads + Wait + Sync>(
     rt: &R,
     alloc: Global,
