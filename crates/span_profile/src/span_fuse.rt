@@ -1,6 +1,6 @@
 // The watcher that refuses a span.
 ghost use Rattle.std.specs.Prelude.{◌≡◌, ◌≢◌, None, OnErr, OnOk};
-ghost use Rattle.span_profile.specs.Watch.{fuse, passed};
+ghost use Rattle.span_profile.specs.Watch.{fuse, one_more, passed};
 
 use super::watch::Watch;
 use journal_rules::Span;
@@ -34,7 +34,9 @@ impl Watch for SpanFuse {
     /// Counts a span, or refuses it exactly where `passes` were counted.
     fn span(&mut self, _: Span) -> Result<(), NoMemory>
         ensures taken { OnOk result (passed self.old ≢ fuse self.old) }
+        ensures count { OnOk result (passed self.new ≡ one_more (passed self.old)) }
         ensures refused { OnErr result (passed self.old ≡ fuse self.old) }
+        ensures unchanged { OnErr result (passed self.new ≡ passed self.old) }
         ensures same { fuse self.new ≡ fuse self.old }
     {
         if self.count == self.passes {
