@@ -50,6 +50,9 @@ tally||\n\
 tally|~|1_~\n\
 tally|b~a~b~~|1_~1_a~2_b~\n\
 tally|$~^~$~|1_^~2_$~\n\
+tally|b~b~a~b~a~b~b~b~b~b~b~b~b~b~b~b~|2_a~14_b~\n\
+tally|c~b~a~b~a~b~b~b~b~b~b~b~b~b~b~b~|2_a~13_b~1_c~\n\
+tally|abcdefgh1~abcdefgh1~abcdefgh1~abcdefgh1~abcdefgh1~abcdefgh1~abcdefgh1~abcdefgh2~|7_abcdefgh1~1_abcdefgh2~\n\
 match 10_x_y~30_z~10_q~20~|10_a~20_b~10_c~30~|10_a_x_y~20_b~10_c_x_y~30_z~\n\
 match |a~|\n\
 match _x~|~_a~b~|_x~_a_x~\n\

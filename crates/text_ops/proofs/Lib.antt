@@ -18,6 +18,8 @@ pub mod ShortLines
 pub mod SortLemmas
 pub mod TallyLemmas
 pub mod TallySteps
+pub mod CountedLemmas
+pub mod CountedSteps
 pub mod NumberLemmas
 pub mod MatchLemmas
 pub mod FoundKeys

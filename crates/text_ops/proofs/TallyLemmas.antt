@@ -17,7 +17,7 @@ use Rattle.text_ops.specs.inside.Gathering.{IsGathered}
 use Rattle.text_ops.specs.inside.Tallying.{run_of, TallySoFar}
 use Rattle.text_ops.proofs.OrderLemmas.{Rises, IsUpTo-refl, IsUpTo-antisym, IsPermutation-in_order, count_of-cons, count_of-itself, count_of-permutation, counted_above}
 
-count_of-append : (v : List ℕ) (xs ys : List (List ℕ)) → count_of v (xs ++ ys) ≡ count_of v xs + count_of v ys
+pub count_of-append : (v : List ℕ) (xs ys : List (List ℕ)) → count_of v (xs ++ ys) ≡ count_of v xs + count_of v ys
 count_of-append v xs ys = sum_by-append (λ l. cond (bytes_eq v l) 1 0) xs ys
 
 same_true : (line : List ℕ) → bytes_eq line line ≡ true

@@ -5,6 +5,7 @@ pub mod Keeping
 pub mod SortKeys
 pub mod Matching
 pub mod Tallying
+pub mod Counting
 pub mod Repeating
 pub mod Numbering
 pub mod Cuts

@@ -9,6 +9,8 @@
 //! that are equal, `specs/MatchKeys.antt` how lines of two texts match, `specs/Values.antt` what an operation answers.
 #![tactic(auto)]
 
+mod counted_line;
+mod counted_lines;
 mod counts;
 mod cuts;
 mod found_line;

@@ -4,10 +4,13 @@ ghost use Rattle.text_ops.specs.Lines.{IsNormal, ended};
 ghost use Rattle.text_ops.specs.MatchKeys.{space};
 ghost use Rattle.text_ops.specs.TextMeaning.{tally_meaning};
 ghost use Rattle.text_ops.specs.Values.{Makes};
+ghost use Rattle.text_ops.specs.inside.Counting.{AreDifferentLines};
 ghost use Rattle.text_ops.specs.inside.Gathering.{IsGathered};
 ghost use Rattle.text_ops.specs.inside.SortKeys.{keyed_piece};
 ghost use Rattle.text_ops.specs.inside.Tallying.{run_of};
 
+use crate::counted_line::CountedLine;
+use crate::counted_lines::counted_lines;
 use crate::gathered::{ApplyError, Gathered};
 use crate::sort_key::{Offset, Piece, SortKey};
 use crate::sort_keys::{keyed_piece, sorted_keys};
@@ -21,10 +24,24 @@ pub fn tally(alloc: Global, text: &Text) -> Result<Text, ApplyError>
     ensures { Makes (tally_meaning text.now) result }
 {
     let bytes = text.as_slice();
+    if let Some(rows) = counted_lines(alloc, bytes)? {
+        return tally_of_rows(alloc, rows.as_slice());
+    }
     if bytes.len() <= u32::MAX as usize {
         return tally_by_sort_keys::<u32>(alloc, bytes);
     }
     tally_by_sort_keys::<usize>(alloc, bytes)
+}
+
+// Each line behind its count.
+fn tally_of_rows(alloc: Global, rows: &[CountedLine<'_>]) -> Result<Text, ApplyError>
+    ensures { (text : List ℕ) → AreDifferentLines text rows.now → Makes (tally_meaning text) result }
+{
+    let mut made = Gathered::new(alloc);
+    for row in rows {
+        add_counted(&mut made, row.count, row.line)?;
+    }
+    made.finish(alloc)
 }
 
 fn tally_by_sort_keys<O: Offset>(alloc: Global, text: &[u8]) -> Result<Text, ApplyError>

@@ -1,0 +1,117 @@
+// The different lines of a text that has few of them, each with how often it occurs.
+ghost use Rattle.std.specs.Prelude.{IfOk, IfSome, IsTrue, OnOk};
+ghost use Rattle.text_ops.specs.Lines.{IsNormal};
+ghost use Rattle.text_ops.specs.inside.Counting.{AreDifferentLines, AreRising, CountsOneMore, IsFound};
+
+use crate::counted_line::CountedLine;
+use crate::line_ends::line_ends;
+use crate::line_walk::Lines;
+use outside_io::NoMemory;
+use std::alloc::Global;
+use std::hash::{FoldHasher, Hasher};
+
+// At most so large a part of the lines may be different.
+const PART: usize = 8;
+
+// So many slots are looked at, from the one that a line's hash names.
+const PROBES: usize = 16;
+
+// What a search for a line finds.
+pub(crate) enum Found {
+    // The line's row.
+    Row(usize),
+    // No row. The line may be noted in this slot, if there is one.
+    Slot(usize),
+}
+
+/// The different lines of a text, in the order of their bytes, each with how often it occurs. `None`: perhaps more than
+/// an eighth of the lines are different.
+pub(crate) fn counted_lines<'t>(
+    alloc: Global,
+    text: &'t [u8],
+) -> Result<Option<Vec<CountedLine<'t>>>, NoMemory>
+    requires { IsNormal text.now }
+    ensures { IfOk result (λ found. IfSome found (λ rows. AreDifferentLines text.now rows.items)) }
+{
+    let most = line_ends(text) / PART;
+    let mut rows = Vec::new(alloc);
+    let mut slots = vec![in alloc; usize::MAX; 2 * most + PROBES]?;
+    for line in Lines::new(text) {
+        if rows.len() > most {
+            return Ok(None);
+        }
+        count_line(&mut rows, &mut slots, line)?;
+    }
+    rows.sort_unstable_by(|a, b| a.line.cmp(b.line));
+    if !are_rising(rows.as_slice()) {
+        return Ok(None);
+    }
+    Ok(Some(rows))
+}
+
+// Counts a line. The slots are only hints: a line that they don't lead to gets one more row.
+fn count_line<'t>(
+    rows: &mut Vec<CountedLine<'t>>,
+    slots: &mut [usize],
+    line: &'t [u8],
+) -> Result<(), NoMemory>
+    ensures { OnOk result (CountsOneMore line.entry.now rows.old.items rows.new.items) }
+{
+    match find(rows.as_slice(), slots, line) {
+        Found::Row(row) => {
+            let count = rows[row].count.checked_add(1).ok_or(NoMemory)?;
+            rows[row] = CountedLine { line, count };
+        }
+        Found::Slot(slot) => {
+            note(slots, slot, rows.len());
+            rows.push(CountedLine { line, count: 1 })?;
+        }
+    }
+    Ok(())
+}
+
+// Notes a row in a slot, if there is one.
+fn note(slots: &mut [usize], slot: usize, row: usize) {
+    if let Some(noted) = slots.get_mut(slot) {
+        *noted = row;
+    }
+}
+
+// Looks for a line by its hash.
+fn find(rows: &[CountedLine<'_>], slots: &[usize], line: &[u8]) -> Found
+    ensures { IsFound rows.now line.now result }
+{
+    let first = first_slot(line, slots.len());
+    for slot in first..first.saturating_add(PROBES) {
+        let Some(row) = slots.get(slot) else {
+            return Found::Slot(slot);
+        };
+        let Some(counted) = rows.get(*row) else {
+            return Found::Slot(slot);
+        };
+        if counted.line == line {
+            return Found::Row(*row);
+        }
+    }
+    Found::Slot(usize::MAX)
+}
+
+// The slot that a line's hash names, of so many.
+fn first_slot(line: &[u8], slots: usize) -> usize {
+    let mut hasher = FoldHasher::default();
+    hasher.write(line);
+    let hash = hasher.finish() >> 32;
+    (hash.wrapping_mul(slots as u64) >> 32) as usize
+}
+
+// Whether each line is less than the next.
+fn are_rising(rows: &[CountedLine<'_>]) -> bool
+    ensures { IsTrue result → AreRising rows.now }
+{
+    for k in 1..rows.len() {
+        if !rows[k - 1].line.cmp(rows[k].line).is_lt() {
+            return false;
+        }
+    }
+    true
+}
