@@ -2,10 +2,13 @@
 # Measures the operations on texts, each alone: `bench texts` reads a text of 16 MB once and applies the operation
 # eight times. Beside it stand GNU sort, an awk program that matches lines, `grep -F`, and the copy of as many bytes
 # as the operation gives into memory that wasn't used before. The best of three runs counts; a tool's time is that of
-# its whole run. It builds the program first. Run it as `bash bench/texts.sh`, from any folder, on a machine with an
+# its whole run. Where there is a `rustc`, the same work stands beside it in an unverified Rust program
+# (bench/peers/texts.rs), which keeps copies of all values and a journal, or shares texts and frees them: the ratios to
+# both end the line. It builds the programs first. Run it as `bash bench/texts.sh`, from any folder, on a machine with an
 # idle processor.
 set -euo pipefail
-crate=$(cd "$(dirname "${BASH_SOURCE[0]}")/.." && pwd)/crates/bench
+bench=$(cd "$(dirname "${BASH_SOURCE[0]}")" && pwd)
+crate=$bench/../crates/bench
 (cd "$crate" && rt run > /dev/null)
 program=$crate/out/bench
 
@@ -13,6 +16,7 @@ folder=$(mktemp -d)
 trap 'rm -rf "$folder"' EXIT
 cd "$folder"
 export LC_ALL=C
+if command -v rustc > /dev/null; then rustc -O -o peer "$bench/peers/texts.rs"; fi
 
 # A text of 16 MB, of lines with so many random letters and digits. Where they are long the first eight are a key.
 random_lines() {
@@ -30,15 +34,17 @@ PYTHON
 random_lines 99 > long.txt
 random_lines 6 > short.txt
 
-# A text of as many short lines, of which a hundred differ.
+# A text of as many short lines, of which so many differ.
 few_lines() {
-    python3 - short.txt <<'PYTHON'
+    python3 - short.txt "$1" <<'PYTHON'
 import random, sys
 lines = open(sys.argv[1], "rb").readlines()
-sys.stdout.buffer.write(b"".join(random.Random(2).choices(lines[:100], k=len(lines))))
+sys.stdout.buffer.write(b"".join(random.Random(2).choices(lines[:int(sys.argv[2])], k=len(lines))))
 PYTHON
 }
-few_lines > few.txt
+few_lines 100 > few.txt
+few_lines 1000 > some.txt
+few_lines 100000 > many.txt
 
 # The first half of each, which is matched with itself, and the half twice, which is tallied: so no value is too long.
 for text in long short; do
@@ -67,6 +73,12 @@ print(int(micros), int(size), resource.getrusage(resource.RUSAGE_CHILDREN).ru_ma
 PYTHON
 }
 
+# The least microseconds of the peer, or 0 where there is none.
+peer() {
+    [[ -x ./peer ]] || { echo 0; return; }
+    for _ in 1 2 3; do ./peer "$@"; done | sort -n | awk 'NR == 1 { print $1 }'
+}
+
 # The least microseconds of a command of the shell, whose output goes to a file: `grep` stops at the first line that
 # it finds where nobody reads the output.
 time_of() {
@@ -82,23 +94,25 @@ print(round(best * 1e6))
 PYTHON
 }
 
-# One line: the operation, its time and memory, what it stands beside and their ratio.
+# One line: the operation, its time and memory, what it stands beside and their ratio, and the ratios to the peers.
 tell() {
-    awk -v text="$1" -v name="$2" -v micros="$3" -v size="$4" -v memory="$5" -v beside="$6" -v other="$7" 'BEGIN {
+    awk -v text="$1" -v name="$2" -v micros="$3" -v size="$4" -v memory="$5" -v beside="$6" -v other="$7" \
+        -v keeps="$8" -v shares="$9" 'BEGIN {
         printf "%-5s %-8s %9.1f ms %9d bytes %4d MB", text, name, micros / 1000, size, memory
         if (other + 0 > 0) printf "   %s %.1f ms, ratio %.2f", beside, other / 1000, micros / other
+        if (shares + 0 > 0) printf "   Rust %.2f and %.2f", micros / keeps, micros / shares
         printf "\n"
     }'
 }
 
-for text in long short few; do
+for text in long short few some many; do
     half=$(($(wc -l < $text.txt) / 2))
     operations=("head $half" "tail $half" "skip $half" "keep abc" "without abc" uniq count sort tally match)
-    [[ $text == few ]] && operations=(sort tally)
+    case $text in few | some | many) operations=(sort tally) ;; esac
     for operation in "${operations[@]}"; do
         read -r name operand <<< "$operation"
         case $name in
-            tally) [[ $text == few ]] && file=few.txt || file=$text.twice.txt ;;
+            tally) [[ -f $text.twice.txt ]] && file=$text.twice.txt || file=$text.txt ;;
             match) file=$text.half.txt ;;
             *) file=$text.txt ;;
         esac
@@ -110,6 +124,7 @@ for text in long short few; do
             match) beside="awk" other=$(time_of "awk -f match.awk $file $file") ;;
             *) beside="a copy" && read -r other _ _ < <(measure copy $file "$size") ;;
         esac
-        tell "$text" "$name" "$micros" "$size" "$memory" "$beside" "$other"
+        tell "$text" "$name" "$micros" "$size" "$memory" "$beside" "$other" \
+            "$(peer keeps "$name" $file "$operand")" "$(peer shares "$name" $file "$operand")"
     done
 done
