@@ -3,7 +3,8 @@ use crate::clock::micros_since;
 use crate::files::{bytes_of, next_word};
 use graph_file::read_graph;
 use graph_writer::write_graph;
-use serde_json::Value;
+use json::Scratch;
+use json_values::Value;
 use std::alloc::Global;
 use std::env::Args;
 use std::io;
@@ -27,7 +28,10 @@ pub fn measure(rt: &HostRuntime, mut words: Args) -> io::Result<()> {
 // Whether what the word names could be done.
 fn does(alloc: Global, word: &str, bytes: &[u8]) -> bool {
     match word {
-        "json" => Value::from_slice(alloc, bytes).is_ok(),
+        "json" => {
+            let mut scratch = Scratch::new(alloc);
+            Value::from_slice(alloc, bytes, &mut scratch).is_ok()
+        }
         "read" => read_graph(alloc, bytes).is_ok(),
         "write" => match read_graph(alloc, bytes) {
             Ok(plan) => write_graph(alloc, &plan).is_ok(),

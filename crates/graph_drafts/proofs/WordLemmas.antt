@@ -4,8 +4,8 @@ use Rattle.std.proofs.lemmas.List.{length-map}
 use Rattle.std.specs.Borrow.{Bor}
 use Rattle.serde_json.specs.Data.{Data}
 use Rattle.serde_json.specs.Find.{get}
-use Rattle.serde_json.specs.View.{view}
-use Rattle.serde_json.specs.declared.value.Value.{Value}
+use Rattle.json_values.specs.inside.View.{view}
+use Rattle.json_values.specs.declared.value.Value.{Value}
 use Rattle.graph_plans.specs.declared.spots.Spot.{Spot}
 use Rattle.graph_drafts.specs.declared.refusals.GraphError.{GraphError}
 use Rattle.graph_drafts.specs.declared.refusals.GraphError.TheVariants.{BadField}

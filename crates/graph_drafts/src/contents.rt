@@ -2,10 +2,10 @@
 ghost use Rattle.std.specs.Prelude.{◌≡◌, map, option_map, option_and_then};
 ghost use Rattle.std.specs.List.{list_all};
 ghost use Rattle.serde_json.specs.Find.{get};
-ghost use Rattle.serde_json.specs.View.{view};
+ghost use Rattle.json_values.specs.inside.View.{view};
 ghost use Rattle.graph_drafts.specs.Contents.{is_name, is_name_byte, is_object, is_text, list_of, name_of, objects_of, text_name_of, whole_of, word_of};
 
-use serde_json::Value;
+use json_values::Value;
 
 const MAX_NAME_LEN: usize = 64;
 
@@ -31,7 +31,7 @@ fn is_name(text: &str) -> bool
 }
 
 /// The string, if this is one and a name.
-pub(crate) fn name_of(value: &Value) -> Option<&str>
+pub(crate) fn name_of<'v>(value: &Value<'v>) -> Option<&'v str>
     ensures { option_map (λ s. s.now) result ≡ name_of (view value.now) }
 {
     let name = value.as_str()?;
@@ -47,7 +47,7 @@ fn is_text(text: &str, least: usize, most: usize) -> bool
 }
 
 /// The string, if this is one and may name a text.
-pub(crate) fn text_name_of(value: &Value) -> Option<&str>
+pub(crate) fn text_name_of<'v>(value: &Value<'v>) -> Option<&'v str>
     ensures { option_map (λ s. s.now) result ≡ text_name_of (view value.now) }
 {
     let text = value.as_str()?;
@@ -59,7 +59,7 @@ pub(crate) fn text_name_of(value: &Value) -> Option<&str>
 }
 
 /// The string, if this is one and a word.
-pub(crate) fn word_of(value: &Value) -> Option<&str>
+pub(crate) fn word_of<'v>(value: &Value<'v>) -> Option<&'v str>
     ensures { option_map (λ s. s.now) result ≡ word_of (view value.now) }
 {
     let word = value.as_str()?;
@@ -71,7 +71,7 @@ pub(crate) fn word_of(value: &Value) -> Option<&str>
 }
 
 /// The whole number, if this is one in the range.
-pub(crate) fn whole_of(value: &Value, least: u64, most: u64) -> Option<u64>
+pub(crate) fn whole_of(value: &Value<'_>, least: u64, most: u64) -> Option<u64>
     ensures { result ≡ whole_of least most (view value.now) }
 {
     let number = value.as_u64()?;
@@ -84,7 +84,7 @@ pub(crate) fn whole_of(value: &Value, least: u64, most: u64) -> Option<u64>
 
 /// The items, if this is a list.
 #[tactic(auto, using(crate::proofs::ContentLemmas::lists))]
-pub(crate) fn list_of(value: &Value) -> Option<&[Value]>
+pub(crate) fn list_of<'o, 'v>(value: &'o Value<'v>) -> Option<&'o [Value<'v>]>
     ensures { option_map (λ items. map view items.now) result ≡ list_of (view value.now) }
 {
     let items = value.as_array()?;
@@ -93,7 +93,7 @@ pub(crate) fn list_of(value: &Value) -> Option<&[Value]>
 
 /// The items, if this is a list of objects.
 #[tactic(auto, using(crate::proofs::ContentLemmas::lists))]
-pub(crate) fn objects_of(value: &Value) -> Option<&[Value]>
+pub(crate) fn objects_of<'o, 'v>(value: &'o Value<'v>) -> Option<&'o [Value<'v>]>
     ensures { option_map (λ items. map view items.now) result ≡ objects_of (view value.now) }
 {
     let items = list_of(value)?;
@@ -104,7 +104,7 @@ pub(crate) fn objects_of(value: &Value) -> Option<&[Value]>
     }
 }
 
-fn are_objects(values: &[Value]) -> bool
+fn are_objects(values: &[Value<'_>]) -> bool
     ensures { result ≡ list_all (λ value. is_object (view value)) values.now }
 {
     values.iter().all(|value| value.is_object())

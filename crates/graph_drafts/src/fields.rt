@@ -1,10 +1,11 @@
 // The fields of the objects in a graph file.
-ghost use Rattle.std.specs.Prelude.{◌≡◌, [], ◌++◌, codes, map, option_and_then, option_map, string_bytes, ok_or};
+ghost use Rattle.std.specs.Prelude.{◌≡◌, [], ◌++◌, codes, map, option_and_then, option_map, string_bytes, ok_or, Some};
+ghost use Rattle.std.specs.Option.{option_map_or};
 ghost use Rattle.std.specs.BTreeMap.{keys};
 ghost use Rattle.std.specs.List.{find, list_any};
 ghost use Rattle.std.specs.Str.{bytes_eq};
 ghost use Rattle.serde_json.specs.Find.{as_str, get};
-ghost use Rattle.serde_json.specs.View.{view};
+ghost use Rattle.json_values.specs.inside.View.{view};
 ghost use Rattle.graph_drafts.specs.Contents.{each, line_count_of, list_of, name_of, name_list_of, objects_of, part_size_of, text_name_of, whole_of, word_of, words_of};
 ghost use Rattle.graph_drafts.specs.Fields.{allowed, is_unknown, needed, only, unknown};
 ghost use Rattle.graph_drafts.specs.inside.Reading.{Leads, Reads, ReadsAs, put_each, strings};
@@ -14,8 +15,8 @@ use crate::bad_fields::bad_field;
 use crate::contents::{list_of, name_of, objects_of, text_name_of, whole_of, word_of};
 use crate::refusals::GraphError;
 use graph_plans::Spot;
+use json_values::Value;
 use outside_io::{Bytes, List};
-use serde_json::{Map, Value};
 use std::alloc::Global;
 
 const MAX_LINES: u64 = 1_000_000_000;
@@ -26,7 +27,7 @@ const MAX_WORDS: usize = 256;
 pub(crate) fn read_name<'v>(
     alloc: Global,
     spot: Spot,
-    object: &'v Value,
+    object: &Value<'v>,
 ) -> Result<&'v str, GraphError>
     ensures { ReadsAs (λ s. s.now) result
         (needed name_of spot (codes "name") (view object.now)) }
@@ -37,39 +38,24 @@ pub(crate) fn read_name<'v>(
     Ok(name)
 }
 
-/// The objects in a list.
-pub(crate) fn read_objects<'v>(
-    alloc: Global,
-    spot: Spot,
-    field: &str,
-    object: &'v Value,
-) -> Result<&'v [Value], GraphError>
-    ensures { ReadsAs (λ items. map view items.now) result
-        (needed objects_of spot field.now (view object.now)) }
+/// The objects in the list that a field holds, if it holds one.
+pub(crate) fn objects_in<'o, 'v>(object: &'o Value<'v>, field: &str) -> Option<&'o [Value<'v>]>
+    ensures { option_map (λ items. map view items.now) result
+        ≡ option_and_then objects_of (get field.now (view object.now)) }
 {
-    let Some(items) = object.get(field).and_then(objects_of) else {
-        return Err(bad_field(alloc, spot, field));
-    };
-    Ok(items)
+    let list = object.get(field)?;
+    objects_of(list)
 }
 
-/// The objects in a list, which may be missing and is then empty.
-pub(crate) fn read_some_objects<'v>(
-    alloc: Global,
-    spot: Spot,
-    field: &str,
-    object: &'v Value,
-) -> Result<&'v [Value], GraphError>
-    ensures { ReadsAs (λ items. map view items.now) result
-        (allowed [] objects_of spot field.now (view object.now)) }
+/// The same of a field that may be missing, which is then an empty list.
+pub(crate) fn some_objects_in<'o, 'v>(object: &'o Value<'v>, field: &str) -> Option<&'o [Value<'v>]>
+    ensures { option_map (λ items. map view items.now) result
+        ≡ option_map_or objects_of (get field.now (view object.now)) (Some []) }
 {
     let Some(list) = object.get(field) else {
-        return Ok(&[]);
+        return Some(<&[Value<'v>]>::default());
     };
-    match objects_of(list) {
-        Some(items) => Ok(items),
-        None => Err(bad_field(alloc, spot, field)),
-    }
+    objects_of(list)
 }
 
 /// The names in a list, which may be missing and is then empty.
@@ -77,7 +63,7 @@ pub(crate) fn read_names<'v>(
     alloc: Global,
     spot: Spot,
     field: &str,
-    object: &'v Value,
+    object: &Value<'v>,
 ) -> Result<List<&'v str>, GraphError>
     ensures { ReadsAs strings result
         (allowed [] name_list_of spot field.now (view object.now)) }
@@ -95,7 +81,7 @@ fn listed_names<'v>(
     alloc: Global,
     spot: Spot,
     field: &str,
-    items: &'v [Value],
+    items: &[Value<'v>],
 ) -> Result<List<&'v str>, GraphError>
     ensures { ReadsAs strings result (walk
         (put_each name_of (λ name. name) (GraphError.BadField spot field.now)) []
@@ -112,7 +98,7 @@ fn read_listed<'v>(
     alloc: Global,
     spot: Spot,
     field: &str,
-    item: &'v Value,
+    item: &Value<'v>,
     names: &mut List<&'v str>,
 ) -> Result<(), GraphError>
     ensures { Leads result (strings names.new)
@@ -130,7 +116,7 @@ fn read_listed<'v>(
 pub(crate) fn read_text_name<'v>(
     alloc: Global,
     spot: Spot,
-    object: &'v Value,
+    object: &Value<'v>,
 ) -> Result<&'v str, GraphError>
     ensures { ReadsAs (λ s. s.now) result
         (needed text_name_of spot (codes "text") (view object.now)) }
@@ -142,7 +128,7 @@ pub(crate) fn read_text_name<'v>(
 }
 
 /// The word of an operation.
-pub(crate) fn read_word(alloc: Global, spot: Spot, object: &Value) -> Result<Bytes, GraphError>
+pub(crate) fn read_word(alloc: Global, spot: Spot, object: &Value<'_>) -> Result<Bytes, GraphError>
     ensures { Reads result (needed word_of spot (codes "word") (view object.now)) }
 {
     let Some(word) = object.get("word").and_then(word_of) else {
@@ -155,7 +141,7 @@ pub(crate) fn read_word(alloc: Global, spot: Spot, object: &Value) -> Result<Byt
 pub(crate) fn read_module_name<'v>(
     alloc: Global,
     spot: Spot,
-    object: &'v Value,
+    object: &Value<'v>,
 ) -> Result<&'v str, GraphError>
     ensures { ReadsAs (λ s. s.now) result
         (needed as_str spot (codes "module") (view object.now)) }
@@ -167,7 +153,7 @@ pub(crate) fn read_module_name<'v>(
 }
 
 // The string of a field, if it holds one.
-fn string_in<'v>(object: &'v Value, field: &str) -> Option<&'v str>
+fn string_in<'v>(object: &Value<'v>, field: &str) -> Option<&'v str>
     ensures { option_map (λ s. s.now) result
         ≡ option_and_then as_str (get field.now (view object.now)) }
 {
@@ -175,7 +161,11 @@ fn string_in<'v>(object: &'v Value, field: &str) -> Option<&'v str>
 }
 
 /// The number of lines in each part that an operation makes.
-pub(crate) fn read_part_lines(alloc: Global, spot: Spot, object: &Value) -> Result<u64, GraphError>
+pub(crate) fn read_part_lines(
+    alloc: Global,
+    spot: Spot,
+    object: &Value<'_>,
+) -> Result<u64, GraphError>
     ensures { Reads result (needed part_size_of spot (codes "n") (view object.now)) }
 {
     let Some(lines) = object.get("n").and_then(part_size_of) else {
@@ -185,14 +175,14 @@ pub(crate) fn read_part_lines(alloc: Global, spot: Spot, object: &Value) -> Resu
 }
 
 /// A number of lines in a part.
-pub(crate) fn part_size_of(value: &Value) -> Option<u64>
+pub(crate) fn part_size_of(value: &Value<'_>) -> Option<u64>
     ensures { result ≡ part_size_of (view value.now) }
 {
     whole_of(value, 1, MAX_LINES)
 }
 
 /// The number of lines that an operation names.
-pub(crate) fn read_lines(alloc: Global, spot: Spot, object: &Value) -> Result<u64, GraphError>
+pub(crate) fn read_lines(alloc: Global, spot: Spot, object: &Value<'_>) -> Result<u64, GraphError>
     ensures { Reads result (needed line_count_of spot (codes "n") (view object.now)) }
 {
     let Some(lines) = object.get("n").and_then(line_count_of) else {
@@ -201,14 +191,14 @@ pub(crate) fn read_lines(alloc: Global, spot: Spot, object: &Value) -> Result<u6
     Ok(lines)
 }
 
-fn line_count_of(value: &Value) -> Option<u64>
+fn line_count_of(value: &Value<'_>) -> Option<u64>
     ensures { result ≡ line_count_of (view value.now) }
 {
     whole_of(value, 0, MAX_LINES)
 }
 
 // The items of a field, if it holds a list.
-fn list_in<'v>(object: &'v Value, field: &str) -> Option<&'v [Value]>
+fn list_in<'o, 'v>(object: &'o Value<'v>, field: &str) -> Option<&'o [Value<'v>]>
     ensures { option_map (λ items. map view items.now) result
         ≡ option_and_then list_of (get field.now (view object.now)) }
 {
@@ -220,7 +210,7 @@ fn list_in<'v>(object: &'v Value, field: &str) -> Option<&'v [Value]>
 pub(crate) fn read_words(
     alloc: Global,
     spot: Spot,
-    object: &Value,
+    object: &Value<'_>,
 ) -> Result<List<Bytes>, GraphError>
     ensures { Reads result (needed words_of spot (codes "words") (view object.now)) }
 {
@@ -233,7 +223,7 @@ pub(crate) fn read_words(
     copied_words(alloc, spot, words)
 }
 
-fn copied_words(alloc: Global, spot: Spot, words: &[Value]) -> Result<List<Bytes>, GraphError>
+fn copied_words(alloc: Global, spot: Spot, words: &[Value<'_>]) -> Result<List<Bytes>, GraphError>
     ensures { Reads result (walk
         (put_each word_of (λ word. word) (GraphError.BadField spot (codes "words"))) []
         (map view words.now)) }
@@ -248,7 +238,7 @@ fn copied_words(alloc: Global, spot: Spot, words: &[Value]) -> Result<List<Bytes
 fn copy_word(
     alloc: Global,
     spot: Spot,
-    word: &Value,
+    word: &Value<'_>,
     copies: &mut List<Bytes>,
 ) -> Result<(), GraphError>
     ensures { Leads result copies.new

@@ -1,6 +1,6 @@
 // A graph file: its own fields, its graph and its modules.
 ghost use Rattle.std.specs.Prelude.{◌≡◌, [], ◌++◌, ◌∷◌, codes, map, IfOk, OnOk};
-ghost use Rattle.serde_json.specs.View.{view};
+ghost use Rattle.json_values.specs.inside.View.{view};
 ghost use Rattle.graph_plans.specs.declared.spots.Spot.TheVariants.{File};
 ghost use Rattle.graph_drafts.specs.Contents.{whole_of};
 ghost use Rattle.graph_drafts.specs.Fields.{allowed};
@@ -11,25 +11,31 @@ ghost use Rattle.graph_drafts.specs.inside.Reading.{Leads, Reads, ReadsAs, draft
 use crate::bad_fields::bad_field;
 use crate::contents::whole_of;
 use crate::draft::{Draft, FileDraft};
-use crate::fields::{read_name, read_objects, read_some_objects};
+use crate::fields::{objects_in, read_name, some_objects_in};
 use crate::refusals::GraphError;
 use crate::scopes::{Scope, graph_spot};
 use crate::semaphores::read_semaphores;
 use crate::tasks::read_tasks;
 use crate::unknown::check_fields;
 use graph_plans::Spot;
+use json_values::Value;
 use outside_io::{List, NoMemory};
-use serde_json::Value;
 use std::alloc::Global;
 
 /// The graphs of a file.
-pub fn read_file<'v>(alloc: Global, file: &'v Value) -> Result<FileDraft<'v>, GraphError>
+pub fn read_file<'v>(alloc: Global, file: &Value<'v>) -> Result<FileDraft<'v>, GraphError>
     ensures { ReadsAs file_rows result (file_in (view file.now)) }
 {
     let version = read_version(alloc, file)?;
-    let tasks = read_objects(alloc, Spot::File, "tasks", file)?;
-    let sems = read_some_objects(alloc, Spot::File, "semaphores", file)?;
-    let modules = read_some_objects(alloc, Spot::File, "modules", file)?;
+    let Some(tasks) = objects_in(file, "tasks") else {
+        return Err(bad_field(alloc, Spot::File, "tasks"));
+    };
+    let Some(sems) = some_objects_in(file, "semaphores") else {
+        return Err(bad_field(alloc, Spot::File, "semaphores"));
+    };
+    let Some(modules) = some_objects_in(file, "modules") else {
+        return Err(bad_field(alloc, Spot::File, "modules"));
+    };
     let fields = &["version", "tasks", "semaphores", "modules"];
     check_fields(alloc, Spot::File, file, fields, &[])?;
     let top = read_draft(
@@ -42,7 +48,7 @@ pub fn read_file<'v>(alloc: Global, file: &'v Value) -> Result<FileDraft<'v>, Gr
     Ok(FileDraft { top, modules })
 }
 
-fn read_version(alloc: Global, file: &Value) -> Result<u64, GraphError>
+fn read_version(alloc: Global, file: &Value<'_>) -> Result<u64, GraphError>
     ensures { Reads result (allowed 1 (whole_of 1 2) File (codes "version") (view file.now)) }
 {
     let Some(version) = file.get("version") else {
@@ -72,8 +78,8 @@ fn empty_draft<'v>(alloc: Global, scope: Scope, version: u64, name: &'v str) -> 
 fn read_draft<'v>(
     alloc: Global,
     mut draft: Draft<'v>,
-    sems: &'v [Value],
-    tasks: &'v [Value],
+    sems: &[Value<'v>],
+    tasks: &[Value<'v>],
 ) -> Result<Draft<'v>, GraphError>
     ensures { ReadsAs draft_rows result
         (graph_in (draft_rows draft.entry) (map view sems.now) (map view tasks.now)) }
@@ -87,7 +93,7 @@ fn read_draft<'v>(
 fn read_modules<'v>(
     alloc: Global,
     version: u64,
-    values: &'v [Value],
+    values: &[Value<'v>],
 ) -> Result<Vec<Draft<'v>>, GraphError>
     ensures { ReadsAs (λ modules. map draft_rows modules.items) result
         (walk (add_module version) [] (map view values.now)) }
@@ -103,7 +109,7 @@ fn read_modules<'v>(
 fn add_module<'v>(
     alloc: Global,
     version: u64,
-    value: &'v Value,
+    value: &Value<'v>,
     modules: &mut Vec<Draft<'v>>,
 ) -> Result<(), GraphError>
     ensures { Leads result (map draft_rows modules.new.items)
@@ -125,14 +131,18 @@ fn read_module<'v>(
     alloc: Global,
     scope: Scope,
     version: u64,
-    object: &'v Value,
+    object: &Value<'v>,
 ) -> Result<Draft<'v>, GraphError>
     ensures { ReadsAs draft_rows result (module_in scope version (view object.now)) }
 {
     let spot = graph_spot(scope);
     let name = read_name(alloc, spot, object)?;
-    let tasks = read_objects(alloc, spot, "tasks", object)?;
-    let sems = read_some_objects(alloc, spot, "semaphores", object)?;
+    let Some(tasks) = objects_in(object, "tasks") else {
+        return Err(bad_field(alloc, spot, "tasks"));
+    };
+    let Some(sems) = some_objects_in(object, "semaphores") else {
+        return Err(bad_field(alloc, spot, "semaphores"));
+    };
     check_fields(alloc, spot, object, &["name", "tasks", "semaphores"], &[])?;
     read_draft(alloc, empty_draft(alloc, scope, version, name), sems, tasks)
 }

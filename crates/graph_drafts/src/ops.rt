@@ -1,7 +1,7 @@
 // The operations of a graph file: a row for each.
 ghost use Rattle.std.specs.Prelude.{◌≡◌, codes, map, option_and_then, option_map};
 ghost use Rattle.serde_json.specs.Find.{as_str, get};
-ghost use Rattle.serde_json.specs.View.{view};
+ghost use Rattle.json_values.specs.inside.View.{view};
 ghost use Rattle.graph_drafts.specs.OpRows.{does, each_in, op_called, op_in, op_rows, spread_in, text_op_in, text_rows, used_by};
 ghost use Rattle.graph_drafts.specs.inside.Reading.{Reads, ReadsAs};
 ghost use Rattle.graph_drafts.specs.inside.Reader.{found_op, found_text_op};
@@ -15,14 +15,14 @@ use crate::pipes::read_pipe;
 use crate::refusals::GraphError;
 use crate::unknown::check_fields;
 use graph_plans::{Op, Spot, TextOp};
-use serde_json::Value;
+use json_values::Value;
 use std::alloc::Global;
 
 /// The operation of a task, with its own fields.
 pub(crate) fn read_op<'v>(
     alloc: Global,
     spot: Spot,
-    task: &'v Value,
+    task: &Value<'v>,
 ) -> Result<FoundOp<FileOp<'v>>, GraphError>
     ensures { ReadsAs found_op result (op_in op_rows spot (view task.now)) }
 {
@@ -33,7 +33,7 @@ pub(crate) fn read_op<'v>(
 }
 
 /// The name in an object's field `op`.
-pub(crate) fn op_name(object: &Value) -> Option<&str>
+pub(crate) fn op_name<'v>(object: &Value<'v>) -> Option<&'v str>
     ensures { option_map (λ s. s.now) result
         ≡ option_and_then as_str (get (codes "op") (view object.now)) }
 {
@@ -46,7 +46,7 @@ fn read_op_called<'v>(
     alloc: Global,
     name: &str,
     spot: Spot,
-    object: &'v Value,
+    object: &Value<'v>,
 ) -> Result<FoundOp<FileOp<'v>>, GraphError>
     ensures { ReadsAs found_op result (op_called op_rows name.now spot (view object.now)) }
 {
@@ -75,7 +75,7 @@ fn read_op_called<'v>(
 }
 
 // The parts that an operation makes, and what becomes of each.
-fn read_spread(alloc: Global, spot: Spot, object: &Value) -> Result<Op, GraphError>
+fn read_spread(alloc: Global, spot: Spot, object: &Value<'_>) -> Result<Op, GraphError>
     ensures { Reads result (spread_in spot (view object.now)) }
 {
     let lines = read_part_lines(alloc, spot, object)?;
@@ -84,7 +84,7 @@ fn read_spread(alloc: Global, spot: Spot, object: &Value) -> Result<Op, GraphErr
 }
 
 // The operation on each part. Whatever is wrong with it is wrong with the field that holds it.
-fn read_each(alloc: Global, spot: Spot, object: &Value) -> Result<TextOp, GraphError>
+fn read_each(alloc: Global, spot: Spot, object: &Value<'_>) -> Result<TextOp, GraphError>
     ensures { Reads result (each_in spot (view object.now)) }
 {
     let Some(each) = object.get("each") else {
@@ -98,7 +98,7 @@ fn read_each(alloc: Global, spot: Spot, object: &Value) -> Result<TextOp, GraphE
 }
 
 // The operation on one text that an object is, and nothing else.
-fn read_own_op(alloc: Global, spot: Spot, object: &Value) -> Result<TextOp, GraphError>
+fn read_own_op(alloc: Global, spot: Spot, object: &Value<'_>) -> Result<TextOp, GraphError>
     ensures { Reads result (text_op_in spot (view object.now)) }
 {
     let Some(name) = op_name(object) else {
@@ -115,7 +115,7 @@ fn read_used_text_op<'v>(
     alloc: Global,
     name: &str,
     spot: Spot,
-    object: &'v Value,
+    object: &Value<'v>,
 ) -> Result<FoundOp<FileOp<'v>>, GraphError>
     ensures { ReadsAs found_op result
         (op_called (map (used_by (λ op. does (Op.Text op))) text_rows) name.now spot
@@ -133,7 +133,7 @@ pub(crate) fn read_text_op(
     alloc: Global,
     name: &str,
     spot: Spot,
-    object: &Value,
+    object: &Value<'_>,
 ) -> Result<FoundOp<TextOp>, GraphError>
     ensures { ReadsAs found_text_op result (op_called text_rows name.now spot (view object.now)) }
 {

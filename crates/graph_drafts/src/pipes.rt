@@ -1,7 +1,8 @@
 // The pipelines in a graph file.
-ghost use Rattle.std.specs.Prelude.{◌≡◌, [], codes, map, option_and_then, option_map};
+ghost use Rattle.std.specs.Prelude.{◌≡◌, [], codes, map, option_and_then, option_map, Some};
+ghost use Rattle.std.specs.Option.{option_map_or};
 ghost use Rattle.serde_json.specs.Find.{as_bool, get};
-ghost use Rattle.serde_json.specs.View.{view};
+ghost use Rattle.json_values.specs.inside.View.{view};
 ghost use Rattle.graph_drafts.specs.Contents.{defer_objects_of, part_size_of, pipe_lines_of, target_items_of, targets_of, token_number_of, whole_of};
 ghost use Rattle.graph_drafts.specs.Fields.{allowed, needed};
 ghost use Rattle.graph_drafts.specs.OpRows.{add_defer, add_pipe, defers_in, line_rows, may_have, op_called, op_in, pipe_in, pipes_in, text_rows, used_by};
@@ -11,17 +12,17 @@ ghost use Rattle.graph_drafts.specs.inside.Reader.{found_line_op, pipe_rows};
 
 use crate::bad_fields::bad_field;
 use crate::contents::{list_of, objects_of, whole_of};
-use crate::fields::{part_size_of, read_objects};
+use crate::fields::{objects_in, part_size_of};
 use crate::file_op::{FoundOp, with};
 use crate::ops::{op_name, read_text_op};
 use crate::refusals::GraphError;
 use crate::unknown::check_fields;
 use graph_plans::{LineOp, Op, PipePlan, Spot};
+use json_values::Value;
 use outside_io::List;
 use pipe_lines::{
     DeferRow, MAX_DEFER_ROWS, MAX_TARGET, MAX_TARGETS, MAX_TOKENS, PipeSpec, is_deferred,
 };
-use serde_json::Value;
 use std::alloc::Global;
 
 /// Pipes: of each whether it is serial, and what it does.
@@ -32,7 +33,7 @@ pub(crate) struct Pipes {
 }
 
 /// The pipes of a task.
-pub(crate) fn read_pipe(alloc: Global, spot: Spot, object: &Value) -> Result<Op, GraphError>
+pub(crate) fn read_pipe(alloc: Global, spot: Spot, object: &Value<'_>) -> Result<Op, GraphError>
     ensures { Reads result (pipe_in spot (view object.now)) }
 {
     let lines = read_lines(alloc, spot, object)?;
@@ -51,7 +52,7 @@ pub(crate) fn read_pipe(alloc: Global, spot: Spot, object: &Value) -> Result<Op,
 }
 
 // How many lines there are.
-fn read_lines(alloc: Global, spot: Spot, object: &Value) -> Result<u32, GraphError>
+fn read_lines(alloc: Global, spot: Spot, object: &Value<'_>) -> Result<u32, GraphError>
     ensures { Reads result (needed pipe_lines_of spot (codes "lines") (view object.now)) }
 {
     let Some(lines) = object.get("lines").and_then(pipe_lines_of) else {
@@ -60,7 +61,7 @@ fn read_lines(alloc: Global, spot: Spot, object: &Value) -> Result<u32, GraphErr
     Ok(lines)
 }
 
-fn pipe_lines_of(value: &Value) -> Option<u32>
+fn pipe_lines_of(value: &Value<'_>) -> Option<u32>
     ensures { result ≡ pipe_lines_of (view value.now) }
 {
     let lines = whole_of(value, 0, u64::from(u32::MAX))?;
@@ -68,7 +69,7 @@ fn pipe_lines_of(value: &Value) -> Option<u32>
 }
 
 // How many lines of text a token has.
-fn read_chunk(alloc: Global, spot: Spot, object: &Value) -> Result<u64, GraphError>
+fn read_chunk(alloc: Global, spot: Spot, object: &Value<'_>) -> Result<u64, GraphError>
     ensures { Reads result (allowed 1 part_size_of spot (codes "n") (view object.now)) }
 {
     let Some(lines) = object.get("n") else {
@@ -81,10 +82,12 @@ fn read_chunk(alloc: Global, spot: Spot, object: &Value) -> Result<u64, GraphErr
 }
 
 // The pipes. Whatever is wrong with one is wrong with the field that holds it.
-fn read_pipes(alloc: Global, spot: Spot, object: &Value) -> Result<Pipes, GraphError>
+fn read_pipes(alloc: Global, spot: Spot, object: &Value<'_>) -> Result<Pipes, GraphError>
     ensures { ReadsAs pipe_rows result (pipes_in spot (view object.now)) }
 {
-    let items = read_objects(alloc, spot, "pipes", object)?;
+    let Some(items) = objects_in(object, "pipes") else {
+        return Err(bad_field(alloc, spot, "pipes"));
+    };
     match listed_pipes(alloc, spot, items) {
         Ok(pipes) => Ok(pipes),
         Err(GraphError::NoMemory) => Err(GraphError::NoMemory),
@@ -92,7 +95,7 @@ fn read_pipes(alloc: Global, spot: Spot, object: &Value) -> Result<Pipes, GraphE
     }
 }
 
-fn listed_pipes(alloc: Global, spot: Spot, items: &[Value]) -> Result<Pipes, GraphError>
+fn listed_pipes(alloc: Global, spot: Spot, items: &[Value<'_>]) -> Result<Pipes, GraphError>
     ensures { ReadsAs pipe_rows result
         (walk (add_pipe spot) (record { serial = []; ops = [] }) (map view items.now)) }
 {
@@ -107,7 +110,12 @@ fn listed_pipes(alloc: Global, spot: Spot, items: &[Value]) -> Result<Pipes, Gra
 }
 
 // Puts a pipe at the end.
-fn add_pipe(alloc: Global, spot: Spot, item: &Value, pipes: &mut Pipes) -> Result<(), GraphError>
+fn add_pipe(
+    alloc: Global,
+    spot: Spot,
+    item: &Value<'_>,
+    pipes: &mut Pipes,
+) -> Result<(), GraphError>
     ensures { Leads result (pipe_rows pipes.new)
         (add_pipe spot (pipe_rows pipes.old) (view item.now)) }
 {
@@ -122,7 +130,7 @@ fn add_pipe(alloc: Global, spot: Spot, item: &Value, pipes: &mut Pipes) -> Resul
     Ok(())
 }
 
-fn read_serial(alloc: Global, spot: Spot, object: &Value) -> Result<bool, GraphError>
+fn read_serial(alloc: Global, spot: Spot, object: &Value<'_>) -> Result<bool, GraphError>
     ensures { Reads result (needed as_bool spot (codes "serial") (view object.now)) }
 {
     let Some(serial) = object.get("serial").and_then(Value::as_bool) else {
@@ -142,7 +150,11 @@ fn may_have(serial: bool, op: &LineOp) -> bool
 }
 
 // The operation of a pipe, with its own fields.
-fn read_line_op(alloc: Global, spot: Spot, object: &Value) -> Result<FoundOp<LineOp>, GraphError>
+fn read_line_op(
+    alloc: Global,
+    spot: Spot,
+    object: &Value<'_>,
+) -> Result<FoundOp<LineOp>, GraphError>
     ensures { ReadsAs found_line_op result (op_in line_rows spot (view object.now)) }
 {
     let Some(name) = op_name(object) else {
@@ -156,7 +168,7 @@ fn read_line_op_called(
     alloc: Global,
     name: &str,
     spot: Spot,
-    object: &Value,
+    object: &Value<'_>,
 ) -> Result<FoundOp<LineOp>, GraphError>
     ensures { ReadsAs found_line_op result
         (op_called line_rows name.now spot (view object.now)) }
@@ -174,7 +186,7 @@ fn read_used_line_op(
     alloc: Global,
     name: &str,
     spot: Spot,
-    object: &Value,
+    object: &Value<'_>,
 ) -> Result<FoundOp<LineOp>, GraphError>
     ensures { ReadsAs found_line_op result
         (op_called (map (used_by (λ op. LineOp.Text op)) text_rows) name.now spot
@@ -187,10 +199,12 @@ fn read_used_line_op(
 }
 
 // The rows that defer tokens. Whatever is wrong with one is wrong with the field that holds it.
-fn read_defers(alloc: Global, spot: Spot, object: &Value) -> Result<List<DeferRow>, GraphError>
+fn read_defers(alloc: Global, spot: Spot, object: &Value<'_>) -> Result<List<DeferRow>, GraphError>
     ensures { Reads result (defers_in spot (view object.now)) }
 {
-    let items = read_defer_objects(alloc, spot, object)?;
+    let Some(items) = defer_objects_in(object) else {
+        return Err(bad_field(alloc, spot, "defer"));
+    };
     match listed_defers(alloc, spot, items) {
         Ok(rows) => Ok(rows),
         Err(GraphError::NoMemory) => Err(GraphError::NoMemory),
@@ -198,24 +212,18 @@ fn read_defers(alloc: Global, spot: Spot, object: &Value) -> Result<List<DeferRo
     }
 }
 
-fn read_defer_objects<'v>(
-    alloc: Global,
-    spot: Spot,
-    object: &'v Value,
-) -> Result<&'v [Value], GraphError>
-    ensures { ReadsAs (λ items. map view items.now) result
-        (allowed [] defer_objects_of spot (codes "defer") (view object.now)) }
+// The items of the field `defer`, which may be missing, if there are as many as there may be.
+fn defer_objects_in<'o, 'v>(object: &'o Value<'v>) -> Option<&'o [Value<'v>]>
+    ensures { option_map (λ items. map view items.now) result
+        ≡ option_map_or defer_objects_of (get (codes "defer") (view object.now)) (Some []) }
 {
     let Some(list) = object.get("defer") else {
-        return Ok(&[]);
+        return Some(<&[Value<'v>]>::default());
     };
-    match defer_objects_of(list) {
-        Some(items) => Ok(items),
-        None => Err(bad_field(alloc, spot, "defer")),
-    }
+    defer_objects_of(list)
 }
 
-fn defer_objects_of(value: &Value) -> Option<&[Value]>
+fn defer_objects_of<'o, 'v>(value: &'o Value<'v>) -> Option<&'o [Value<'v>]>
     ensures { option_map (λ items. map view items.now) result ≡ defer_objects_of (view value.now) }
 {
     let items = objects_of(value)?;
@@ -226,7 +234,11 @@ fn defer_objects_of(value: &Value) -> Option<&[Value]>
     }
 }
 
-fn listed_defers(alloc: Global, spot: Spot, items: &[Value]) -> Result<List<DeferRow>, GraphError>
+fn listed_defers(
+    alloc: Global,
+    spot: Spot,
+    items: &[Value<'_>],
+) -> Result<List<DeferRow>, GraphError>
     ensures { Reads result (walk (add_defer spot) [] (map view items.now)) }
 {
     let mut rows = List::new(alloc);
@@ -240,7 +252,7 @@ fn listed_defers(alloc: Global, spot: Spot, items: &[Value]) -> Result<List<Defe
 fn add_defer(
     alloc: Global,
     spot: Spot,
-    item: &Value,
+    item: &Value<'_>,
     rows: &mut List<DeferRow>,
 ) -> Result<(), GraphError>
     ensures { Leads result rows.new (add_defer spot rows.old (view item.now)) }
@@ -255,7 +267,7 @@ fn add_defer(
     Ok(())
 }
 
-fn read_token(alloc: Global, spot: Spot, object: &Value) -> Result<u64, GraphError>
+fn read_token(alloc: Global, spot: Spot, object: &Value<'_>) -> Result<u64, GraphError>
     ensures { Reads result (needed token_number_of spot (codes "token") (view object.now)) }
 {
     let Some(token) = object.get("token").and_then(token_number_of) else {
@@ -264,13 +276,13 @@ fn read_token(alloc: Global, spot: Spot, object: &Value) -> Result<u64, GraphErr
     Ok(token)
 }
 
-fn token_number_of(value: &Value) -> Option<u64>
+fn token_number_of(value: &Value<'_>) -> Option<u64>
     ensures { result ≡ token_number_of (view value.now) }
 {
     whole_of(value, 0, MAX_TOKENS - 1)
 }
 
-fn read_targets(alloc: Global, spot: Spot, object: &Value) -> Result<List<u64>, GraphError>
+fn read_targets(alloc: Global, spot: Spot, object: &Value<'_>) -> Result<List<u64>, GraphError>
     ensures { Reads result (needed targets_of spot (codes "to") (view object.now)) }
 {
     let Some(items) = target_items_in(object) else {
@@ -280,7 +292,7 @@ fn read_targets(alloc: Global, spot: Spot, object: &Value) -> Result<List<u64>, 
 }
 
 // The items of the field `to`, if it holds as many as there may be targets.
-fn target_items_in(object: &Value) -> Option<&[Value]>
+fn target_items_in<'o, 'v>(object: &'o Value<'v>) -> Option<&'o [Value<'v>]>
     ensures { option_map (λ items. map view items.now) result
         ≡ option_and_then target_items_of (get (codes "to") (view object.now)) }
 {
@@ -288,7 +300,7 @@ fn target_items_in(object: &Value) -> Option<&[Value]>
     target_items_of(targets)
 }
 
-fn target_items_of(value: &Value) -> Option<&[Value]>
+fn target_items_of<'o, 'v>(value: &'o Value<'v>) -> Option<&'o [Value<'v>]>
     ensures { option_map (λ items. map view items.now) result ≡ target_items_of (view value.now) }
 {
     let items = list_of(value)?;
@@ -299,7 +311,7 @@ fn target_items_of(value: &Value) -> Option<&[Value]>
     }
 }
 
-fn listed_targets(alloc: Global, spot: Spot, items: &[Value]) -> Result<List<u64>, GraphError>
+fn listed_targets(alloc: Global, spot: Spot, items: &[Value<'_>]) -> Result<List<u64>, GraphError>
     ensures { Reads result (walk
         (put_each (whole_of 0 1000000) (λ target. target) (GraphError.BadField spot (codes "to")))
         [] (map view items.now)) }
@@ -314,7 +326,7 @@ fn listed_targets(alloc: Global, spot: Spot, items: &[Value]) -> Result<List<u64
 fn add_target(
     alloc: Global,
     spot: Spot,
-    item: &Value,
+    item: &Value<'_>,
     targets: &mut List<u64>,
 ) -> Result<(), GraphError>
     ensures { Leads result targets.new

@@ -1,6 +1,6 @@
 // The semaphores in a graph file.
 ghost use Rattle.std.specs.Prelude.{◌≡◌, codes, map};
-ghost use Rattle.serde_json.specs.View.{view};
+ghost use Rattle.json_values.specs.inside.View.{view};
 ghost use Rattle.graph_plans.specs.PlanRows.{maximum_limit};
 ghost use Rattle.graph_drafts.specs.Contents.{whole_of};
 ghost use Rattle.graph_drafts.specs.Fields.{needed, sem_spot};
@@ -16,7 +16,7 @@ use crate::refusals::GraphError;
 use crate::scopes::sem_spot;
 use crate::unknown::check_fields;
 use graph_plans::Spot;
-use serde_json::Value;
+use json_values::Value;
 use std::alloc::Global;
 
 const MAX_MAXIMUM: u64 = 1_000_000;
@@ -24,7 +24,7 @@ const MAX_MAXIMUM: u64 = 1_000_000;
 /// Puts the semaphores of a graph into the draft.
 pub(crate) fn read_semaphores<'v>(
     alloc: Global,
-    sems: &'v [Value],
+    sems: &[Value<'v>],
     draft: &mut Draft<'v>,
 ) -> Result<(), GraphError>
     ensures { Leads result (draft_rows draft.new)
@@ -39,7 +39,7 @@ pub(crate) fn read_semaphores<'v>(
 // Puts a semaphore at the end of those of the draft.
 fn read_semaphore<'v>(
     alloc: Global,
-    sem: &'v Value,
+    sem: &Value<'v>,
     draft: &mut Draft<'v>,
 ) -> Result<(), GraphError>
     ensures { Leads result (draft_rows draft.new)
@@ -55,7 +55,7 @@ fn read_semaphore<'v>(
 }
 
 // How many units a semaphore has.
-fn read_maximum(alloc: Global, spot: Spot, sem: &Value) -> Result<u32, GraphError>
+fn read_maximum(alloc: Global, spot: Spot, sem: &Value<'_>) -> Result<u32, GraphError>
     ensures { Reads result (needed (whole_of 1 maximum_limit) spot (codes "max") (view sem.now)) }
 {
     let Some(max) = sem.get("max").and_then(maximum_of) else {
@@ -64,7 +64,7 @@ fn read_maximum(alloc: Global, spot: Spot, sem: &Value) -> Result<u32, GraphErro
     Ok(max)
 }
 
-fn maximum_of(value: &Value) -> Option<u32>
+fn maximum_of(value: &Value<'_>) -> Option<u32>
     ensures { result ≡ whole_of 1 maximum_limit (view value.now) }
 {
     let max = whole_of(value, 1, MAX_MAXIMUM)?;

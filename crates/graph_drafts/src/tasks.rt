@@ -1,6 +1,6 @@
 // The tasks in a graph file.
 ghost use Rattle.std.specs.Prelude.{◌≡◌, ◌++◌, ◌∷◌, [], codes, map, OnOk};
-ghost use Rattle.serde_json.specs.View.{view};
+ghost use Rattle.json_values.specs.inside.View.{view};
 ghost use Rattle.graph_drafts.specs.Fields.{only};
 ghost use Rattle.graph_drafts.specs.FileText.{puts_field, takes_field, task_fields, with_task_text};
 ghost use Rattle.graph_drafts.specs.Steps.{walk};
@@ -14,8 +14,8 @@ use crate::refusals::GraphError;
 use crate::scopes::task_spot;
 use crate::unknown::check_fields;
 use graph_plans::Spot;
+use json_values::Value;
 use outside_io::NoMemory;
-use serde_json::Value;
 use std::alloc::Global;
 
 /// The field with the semaphores that a task takes, in a file of this version.
@@ -35,7 +35,7 @@ pub fn puts_field(version: u64) -> &'static str
 /// Puts the tasks of a graph into the draft.
 pub(crate) fn read_tasks<'v>(
     alloc: Global,
-    tasks: &'v [Value],
+    tasks: &[Value<'v>],
     draft: &mut Draft<'v>,
 ) -> Result<(), GraphError>
     ensures { Leads result (draft_rows draft.new)
@@ -48,7 +48,7 @@ pub(crate) fn read_tasks<'v>(
 }
 
 // Puts a task at the end of those of the draft.
-fn read_task<'v>(alloc: Global, task: &'v Value, draft: &mut Draft<'v>) -> Result<(), GraphError>
+fn read_task<'v>(alloc: Global, task: &Value<'v>, draft: &mut Draft<'v>) -> Result<(), GraphError>
     ensures { Leads result (draft_rows draft.new)
         (add_task_steps (draft_rows draft.old) (view task.now)) }
 {
@@ -80,7 +80,7 @@ fn read_lists<'v>(
     version: u64,
     spot: Spot,
     name: &'v str,
-    task: &'v Value,
+    task: &Value<'v>,
 ) -> Result<NamedTask<'v>, GraphError>
     ensures { ReadsAs named_task result (lists_in version spot name.now (view task.now)) }
 {
@@ -100,7 +100,7 @@ fn check_task_fields(
     alloc: Global,
     version: u64,
     spot: Spot,
-    task: &Value,
+    task: &Value<'_>,
     own: &[&str],
 ) -> Result<(), GraphError>
     ensures { Reads result (only (task_fields version ++ map (λ s. s.now) own.now) spot

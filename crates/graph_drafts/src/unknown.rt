@@ -1,61 +1,100 @@
 // Fields that an object may not have.
-ghost use Rattle.std.specs.Prelude.{◌≡◌, ◌++◌, map, not, option_map, string_bytes};
-ghost use Rattle.std.specs.BTreeMap.{keys};
-ghost use Rattle.std.specs.List.{find, list_any};
+ghost use Rattle.std.specs.Prelude.{◌≡◌, ◌++◌, IfOk, map, not, option_map, string_bytes};
+ghost use Rattle.std.specs.BTreeMap.{keys as keys_in};
+ghost use Rattle.std.specs.List.{find, list_all, list_any};
 ghost use Rattle.std.specs.Str.{bytes_eq};
-ghost use Rattle.serde_json.specs.View.{view};
-ghost use Rattle.graph_drafts.specs.Fields.{is_unknown, only, unknown};
+ghost use Rattle.serde_json.specs.View.{members_view as tree_members};
+ghost use Rattle.json_values.specs.inside.View.{members_view, view};
+ghost use Rattle.graph_drafts.specs.declared.refusals.GraphError.TheVariants.{BadField};
+ghost use Rattle.graph_drafts.specs.Fields.{is_unknown, keys_of, only, unknown};
+ghost use Rattle.graph_drafts.specs.Steps.{unless};
 ghost use Rattle.graph_drafts.specs.inside.Reading.{Reads};
 
 use crate::bad_fields::bad_field;
 use crate::refusals::GraphError;
 use graph_plans::Spot;
-use serde_json::{Map, Value};
+use json_values::Value;
+use outside_io::NoMemory;
+use serde_json::{Map, Value as Tree, put};
 use std::alloc::Global;
 
 /// That an object has no field but these, which every object of its kind may have, and its own.
 pub(crate) fn check_fields(
     alloc: Global,
     spot: Spot,
-    object: &Value,
+    object: &Value<'_>,
     common: &[&str],
     own: &[&str],
 ) -> Result<(), GraphError>
     ensures { Reads result (only (map (λ s. s.now) common.now ++ map (λ s. s.now) own.now) spot
         (view object.now)) }
 {
-    match first_unknown(object, common, own) {
+    let Some(members) = object.as_object() else {
+        return Ok(());
+    };
+    check_members(alloc, spot, members.as_slice(), common, own)
+}
+
+// That these members have no key but these.
+#[tactic(auto, using(crate::proofs::FieldLemmas::find_known))]
+fn check_members(
+    alloc: Global,
+    spot: Spot,
+    members: &[(&str, Value<'_>)],
+    common: &[&str],
+    own: &[&str],
+) -> Result<(), GraphError>
+    ensures { Reads result (unless (find (is_unknown
+        (map (λ s. s.now) common.now ++ map (λ s. s.now) own.now))
+        (keys_of (members_view members.now))) (λ key. BadField spot key)) }
+{
+    if are_known(members, common, own) {
+        return Ok(());
+    }
+    let keys = sorted_keys(alloc, members)?;
+    match first_unknown(&keys, common, own) {
         Some(field) => Err(bad_field(alloc, spot, field)),
         None => Ok(()),
     }
 }
 
-// The first field of an object, in the order of their bytes, that is none of these.
-fn first_unknown<'v>(object: &'v Value, common: &[&str], own: &[&str]) -> Option<&'v str>
-    ensures { option_map (λ s. s.now) result
-        ≡ unknown (map (λ s. s.now) common.now ++ map (λ s. s.now) own.now) (view object.now) }
+fn are_known(members: &[(&str, Value<'_>)], common: &[&str], own: &[&str]) -> bool
+    ensures { result ≡ list_all (λ member. not (is_unknown
+        (map (λ s. s.now) common.now ++ map (λ s. s.now) own.now) member.0.now)) members.now }
 {
-    let Some(members) = object.as_object() else {
-        return None;
-    };
-    let Some(key) = unknown_key(members, common, own) else {
+    members.iter().all(|member| is_known(common, own, member.0))
+}
+
+// The keys in the order of their bytes, each once. It is made where some key is refused, to find the first.
+fn sorted_keys(alloc: Global, members: &[(&str, Value<'_>)]) -> Result<Map<String, Tree>, NoMemory>
+    ensures { IfOk result (λ keys. keys_of (tree_members keys.entries)
+        ≡ keys_of (members_view members.now)) }
+{
+    let mut keys = Map::new(alloc);
+    for member in members {
+        put(&mut keys, alloc, member.0, Tree::Null)?;
+    }
+    Ok(keys)
+}
+
+// The first key that is none of these fields.
+fn first_unknown<'k>(keys: &'k Map<String, Tree>, common: &[&str], own: &[&str]) -> Option<&'k str>
+    ensures { option_map (λ s. s.now) result
+        ≡ find (is_unknown (map (λ s. s.now) common.now ++ map (λ s. s.now) own.now))
+        (keys_of (tree_members keys.now.entries)) }
+{
+    let Some(key) = unknown_key(keys, common, own) else {
         return None;
     };
     Some(key.as_str())
 }
 
-fn unknown_key<'v>(
-    members: &'v Map<String, Value>,
-    common: &[&str],
-    own: &[&str],
-) -> Option<&'v String>
+fn unknown_key<'k>(keys: &'k Map<String, Tree>, common: &[&str], own: &[&str]) -> Option<&'k String>
     ensures { option_map (λ k. k.now) result
         ≡ find (λ key. is_unknown (map (λ s. s.now) common.now ++ map (λ s. s.now) own.now)
-        (string_bytes key)) (keys members.now) }
+        (string_bytes key)) (keys_in keys.now) }
 {
-    members
-        .keys()
-        .find(|key| !is_known(common, own, key.as_str()))
+    keys.keys().find(|key| !is_known(common, own, key.as_str()))
 }
 
 // Whether the key is one of these fields.

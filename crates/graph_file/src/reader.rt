@@ -1,7 +1,6 @@
 // The reading of graph files.
 ghost use Rattle.std.specs.Prelude.{◌≡◌, ◌≢◌, IfErr, IfOk};
-ghost use Rattle.serde_json.specs.Errors.{IsMemory};
-ghost use Rattle.serde_json.specs.View.{view};
+ghost use Rattle.json_values.specs.inside.View.{view};
 ghost use Rattle.graph_plans.specs.PlanRows.{IsPlan, plan_rows};
 ghost use Rattle.graph_file.specs.PlanText.{IsRefused, PlanText, json_in, read_plan};
 ghost use Rattle.graph_drafts.specs.inside.Reading.{ReadsAs};
@@ -9,7 +8,8 @@ ghost use Rattle.graph_drafts.specs.inside.Reading.{ReadsAs};
 use crate::rules::plan_of;
 use graph_drafts::{GraphError, read_file};
 use graph_plans::Plan;
-use serde_json::{Category, Error, Value};
+use json::Scratch;
+use json_values::{Unread, Value};
 use std::alloc::Global;
 
 /// The plan that the bytes stand for, or the first refusal.
@@ -37,26 +37,31 @@ pub fn read_graph(alloc: Global, bytes: &[u8]) -> Result<Plan, GraphError>
 fn read_by_steps(alloc: Global, bytes: &[u8]) -> Result<Plan, GraphError>
     ensures { ReadsAs plan_rows result (read_plan bytes.now) }
 {
-    let file = read_json(alloc, bytes)?;
+    let mut scratch = Scratch::new(alloc);
+    let file = read_json(alloc, bytes, &mut scratch)?;
     let draft = read_file(alloc, &file)?;
     plan_of(alloc, draft)
 }
 
-fn read_json(alloc: Global, bytes: &[u8]) -> Result<Value, GraphError>
+fn read_json<'v>(
+    alloc: Global,
+    bytes: &'v [u8],
+    scratch: &'v mut Scratch,
+) -> Result<Value<'v>, GraphError>
     ensures { ReadsAs view result (json_in bytes.now) }
 {
-    match Value::from_slice(alloc, bytes) {
+    match Value::from_slice(alloc, bytes, scratch) {
         Ok(file) => Ok(file),
-        Err(error) => Err(json_refusal(error)),
+        Err(unread) => Err(refusal_of(unread)),
     }
 }
 
-fn json_refusal(error: Error) -> GraphError
-    ensures memory { IsMemory error → result ≡ GraphError.NoMemory }
-    ensures other { result ≢ GraphError.NoMemory → result ≡ GraphError.NotJson }
+fn refusal_of(unread: Unread) -> GraphError
+    ensures { result ≢ GraphError.NoMemory
+        → (unread ≡ Unread.NotJson) × (result ≡ GraphError.NotJson) }
 {
-    match error.classify() {
-        Category::Memory => GraphError::NoMemory,
-        _ => GraphError::NotJson,
+    match unread {
+        Unread::NotJson => GraphError::NotJson,
+        Unread::NoMemory => GraphError::NoMemory,
     }
 }

@@ -1,5 +1,5 @@
 use Rattle.std.proofs.Common.{[]}
-use Rattle.serde_json.specs.View.{view}
+use Rattle.json_values.specs.inside.View.{view}
 use Rattle.graph_drafts.specs.declared.refusals.GraphError.TheVariants.{BadField}
 use Rattle.graph_drafts.specs.Contents.{name_of}
 use Rattle.graph_drafts.specs.inside.Reading.{put_each, strings}

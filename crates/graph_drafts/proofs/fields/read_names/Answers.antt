@@ -1,5 +1,5 @@
 use Rattle.std.proofs.Common.{map}
-use Rattle.serde_json.specs.View.{view}
+use Rattle.json_values.specs.inside.View.{view}
 use Rattle.graph_drafts.proofs.WordLemmas.{ReadsAs-names}
 use Rattle.graph_drafts.proofs.fields.read_names.Goals as goal
 

@@ -1,5 +1,5 @@
 use Rattle.std.proofs.Common.{[], map}
-use Rattle.serde_json.specs.View.{view}
+use Rattle.json_values.specs.inside.View.{view}
 use Rattle.graph_drafts.specs.FileText.{add_module}
 use Rattle.graph_drafts.specs.inside.Reading.{draft_rows}
 use Rattle.graph_drafts.proofs.WalkLemmas.{GoesOn}

@@ -1,5 +1,5 @@
 -- No row of a task's own has this name.
-use Rattle.serde_json.specs.View.{view}
+use Rattle.json_values.specs.inside.View.{view}
 use Rattle.graph_drafts.proofs.OpLemmas.{no_own_op}
 use Rattle.graph_drafts.proofs.ops.read_op_called.Goals as goal
 

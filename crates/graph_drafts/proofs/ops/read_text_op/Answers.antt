@@ -1,6 +1,6 @@
 -- No row has this name.
 use Rattle.std.proofs.Common.{sym, ap, ◌∙◌, Err}
-use Rattle.serde_json.specs.View.{view}
+use Rattle.json_values.specs.inside.View.{view}
 use Rattle.graph_drafts.proofs.OpLemmas.{no_text_op}
 use Rattle.graph_drafts.proofs.ops.read_text_op.Goals as goal
 

@@ -1,5 +1,5 @@
 use Rattle.std.proofs.Common.{[]}
-use Rattle.serde_json.specs.View.{view}
+use Rattle.json_values.specs.inside.View.{view}
 use Rattle.graph_drafts.specs.OpRows.{add_defer}
 use Rattle.graph_drafts.proofs.WalkLemmas.{GoesOn}
 use Rattle.graph_drafts.proofs.pipes.listed_defers.Given as goal

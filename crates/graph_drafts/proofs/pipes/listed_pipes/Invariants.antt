@@ -1,5 +1,5 @@
 use Rattle.std.proofs.Common.{[]}
-use Rattle.serde_json.specs.View.{view}
+use Rattle.json_values.specs.inside.View.{view}
 use Rattle.graph_drafts.specs.OpRows.{add_pipe}
 use Rattle.graph_drafts.specs.inside.Reader.{pipe_rows}
 use Rattle.graph_drafts.proofs.WalkLemmas.{GoesOn}

@@ -1,5 +1,5 @@
 -- No row of a pipe's own has this name.
-use Rattle.serde_json.specs.View.{view}
+use Rattle.json_values.specs.inside.View.{view}
 use Rattle.graph_drafts.proofs.OpLemmas.{no_line_op}
 use Rattle.graph_drafts.proofs.pipes.read_line_op_called.Goals as goal
 

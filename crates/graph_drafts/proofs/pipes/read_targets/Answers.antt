@@ -1,6 +1,6 @@
 use Rattle.std.proofs.Common.{codes, map}
 use Rattle.serde_json.specs.Find.{get}
-use Rattle.serde_json.specs.View.{view}
+use Rattle.json_values.specs.inside.View.{view}
 use Rattle.graph_drafts.proofs.WordLemmas.{Reads-targets}
 use Rattle.graph_drafts.proofs.pipes.read_targets.Goals as goal
 

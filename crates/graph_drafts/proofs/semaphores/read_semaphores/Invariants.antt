@@ -1,4 +1,4 @@
-use Rattle.serde_json.specs.View.{view}
+use Rattle.json_values.specs.inside.View.{view}
 use Rattle.graph_drafts.specs.FileText.{add_semaphore}
 use Rattle.graph_drafts.specs.inside.Reading.{draft_rows}
 use Rattle.graph_drafts.proofs.WalkLemmas.{GoesOn}

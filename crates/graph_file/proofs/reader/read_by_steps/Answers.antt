@@ -1,4 +1,4 @@
-use Rattle.serde_json.specs.View.{view}
+use Rattle.json_values.specs.inside.View.{view}
 use Rattle.graph_drafts.specs.inside.Reading.{file_rows}
 use Rattle.graph_file.proofs.PlanLemmas.{IsFile-read}
 use Rattle.graph_file.proofs.reader.read_by_steps.Goals as goal

@@ -1,5 +1,5 @@
 use Rattle.std.proofs.Common.{ap, ◌∙◌, sym, Err}
-use Rattle.serde_json.specs.View.{view}
+use Rattle.json_values.specs.inside.View.{view}
 use Rattle.graph_file.proofs.JsonLemmas.{json_in-ok, json_in-refused}
 use Rattle.graph_file.proofs.reader.read_json.Goals as goal
 
@@ -7,4 +7,4 @@ pub returns-in-Ok : goal.returns-in-Ok
 returns-in-Ok c = json_in-ok c.args.bytes.now (view c.in-Ok.file) c.in-Ok.ensures.ok
 
 pub returns-in-Err : goal.returns-in-Err
-returns-in-Err c sure = json_in-refused c.args.bytes.now (c.in-Err.ensures.err (λ memory. sure (c.json_refusal.ensures.memory memory))) ∙ ap Err (sym (c.json_refusal.ensures.other sure))
+returns-in-Err c sure = json_in-refused c.args.bytes.now (c.in-Err.ensures.refused (ap Err (c.refusal_of.ensures sure).0)) ∙ ap Err (sym (c.refusal_of.ensures sure).1)
