@@ -1,2 +1,6 @@
+mod ByPlace
 mod Building
 mod Tables
+mod RunEdges
+mod RunEvents
+mod RunLegal

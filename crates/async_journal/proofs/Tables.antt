@@ -15,8 +15,11 @@ use Rattle.async_tasks.specs.declared.history.AddRow.{AddRow}
 use Rattle.async_tasks.specs.declared.history.TaskEvent.{TaskEvent}
 use Rattle.async_tasks.specs.declared.history.TaskEvent.TheVariants.{Started, Ended}
 use Rattle.async_tasks.specs.Histories.{is_start_of, is_end_of}
-use Rattle.async_journal.specs.RunJournals.{place_of, named_by, cause_of, given_by, part_of, entry_of, run_journal}
-use Rattle.async_journal.specs.inside.Tables.{IsTableOf, noted_at, noted, start_noted, end_noted, place_at, place_in, part_in, entry_by}
+use Rattle.async_journal.specs.RunJournals.{place_of, named_by, cause_after, end_gives, part_of, entry_of, run_journal}
+use Rattle.async_journal.specs.declared.places.EventKind.{EventKind}
+use Rattle.async_journal.specs.declared.places.EventKind.TheVariants.{Starts, Ends}
+use Rattle.async_journal.specs.inside.Tables.{IsTableOf, is_of_kind, task_if, noted_at, noted, noted_task, noted_event, known_place, noted_place, noted_part, entry_by}
+use Rattle.async_journal.proofs.ByPlace.{front_count, copy_at}
 
 module _ {X : Type 0} where
   get_set_same : (xs : List X) (k : ℕ) (x y : X) → slice_get xs k ≡ Some x → slice_get (set xs k y) k ≡ Some y
@@ -41,11 +44,6 @@ module _ {X : Type 0} where
   not_none (z ∷ zs) zero below is = absurd (cc)
   not_none (z ∷ zs) (suc k) below is = not_none zs k (omega arith) is
 
-  get_replicate : (n k : ℕ) (x : X) → k < n → slice_get (replicate n x) k ≡ Some x
-  get_replicate zero k x below = absurd (omega arith)
-  get_replicate (suc n) zero x below = refl
-  get_replicate (suc n) (suc k) x below = get_replicate n k x (omega arith)
-
   -- the first items, with the next one
   take_next : (xs : List X) (k : ℕ) (x : X) → slice_get xs k ≡ Some x → take (suc k) xs ≡ take k xs ++ x ∷ []
   take_next [] k x at = absurd (cc)
@@ -54,12 +52,6 @@ module _ {X : Type 0} where
       some_same : {a b : X} → Some a ≡ Some b → a ≡ b
       some_same e = cc
   take_next (z ∷ zs) (suc k) x at = ap (λ rest. z ∷ rest) (take_next zs k x at)
-
-  take_count : (xs : List X) (k : ℕ) → k ≤ length xs → length (take k xs) ≡ k
-  take_count [] zero le = refl
-  take_count [] (suc k) le = absurd (omega arith)
-  take_count (z ∷ zs) zero le = refl
-  take_count (z ∷ zs) (suc k) le = ap suc (take_count zs k (omega arith))
 
   map_same : {Y : Type 0} (f g : X → Y) (xs : List X) → ((x : X) → f x ≡ g x) → map f xs ≡ map g xs
   map_same f g [] each = refl
@@ -134,54 +126,44 @@ module _ (is_event : ℕ → TaskEvent → Bool) (tasks : ℕ) where
   pub no_events : (events : List TaskEvent) (table : List (Option ℕ)) → table ≡ replicate tasks None → IsTableOf is_event tasks (take 0 events) table
   no_events events table same = record {
     count = ap length same ∙ length-replicate tasks None;
-    each = λ t below. ap (λ xs. slice_get xs t) same ∙ get_replicate tasks t None below;
+    each = λ t below. ap (λ xs. slice_get xs t) same ∙ copy_at tasks t None below;
   }
 
   pub all_events : (n : ℕ) (events : List TaskEvent) (table : List (Option ℕ)) → length events ≤ n → IsTableOf is_event tasks (take n events) table → IsTableOf is_event tasks events table
   all_events n events table past h = subst (λ xs. IsTableOf is_event tasks xs table) (take_all n events past) h
 
--- a table of starts, after the next event
-pub start_next : (tasks i : ℕ) (events : List TaskEvent) (table new : List (Option ℕ)) → IsTableOf is_start_of tasks (take i events) table → i < length events → new ≡ start_noted table (slice_get events i) i → IsTableOf is_start_of tasks (take (i + 1) events) new
-start_next tasks i events table new h below changed = subst (IsTableOf is_start_of tasks (take (i + 1) events)) (sym changed) (by_event (slice_get events i) refl)
+-- a table, after the next event
+pub event_next : (kind : EventKind) (tasks i : ℕ) (events : List TaskEvent) (table new : List (Option ℕ)) → IsTableOf (is_of_kind kind) tasks (take i events) table → i < length events → new ≡ noted_event kind table (slice_get events i) i → IsTableOf (is_of_kind kind) tasks (take (i + 1) events) new
+event_next kind tasks i events table new h below changed = subst (IsTableOf (is_of_kind kind) tasks (take (i + 1) events)) (sym changed) (by_event (slice_get events i) refl)
   where
-    next : (e : TaskEvent) → slice_get events i ≡ Some e → take i events ++ e ∷ [] ≡ take (i + 1) events
-    next e at = sym (take_next events i e at) ∙ ap (λ k. take k events) (let e : suc i ≡ i + 1 = omega arith in e)
+    by_kind : (k : EventKind) (e : TaskEvent) → IsTableOf (is_of_kind k) tasks (take i events) table → IsTableOf (is_of_kind k) tasks (take i events ++ e ∷ []) (noted_task table (task_if k e) i)
+    by_kind Starts (Started u) has = put_down is_start_of tasks (take i events) (Started u) table u i (λ t. refl) (sym (front_count events i (omega arith))) has
+    by_kind Starts (Ended u) has = skipped is_start_of tasks (take i events) (Ended u) table (λ t. refl) has
+    by_kind Ends (Started u) has = skipped is_end_of tasks (take i events) (Started u) table (λ t. refl) has
+    by_kind Ends (Ended u) has = put_down is_end_of tasks (take i events) (Ended u) table u i (λ t. refl) (sym (front_count events i (omega arith))) has
 
-    by_event : (o : Option TaskEvent) → slice_get events i ≡ o → IsTableOf is_start_of tasks (take (i + 1) events) (start_noted table o i)
+    by_event : (o : Option TaskEvent) → slice_get events i ≡ o → IsTableOf (is_of_kind kind) tasks (take (i + 1) events) (noted_event kind table o i)
     by_event None at = absurd (not_none events i below at)
-    by_event (Some (Started u)) at = subst (λ xs. IsTableOf is_start_of tasks xs (noted table u i)) (next (Started u) at)
-        (put_down is_start_of tasks (take i events) (Started u) table u i (λ t. refl) (sym (take_count events i (omega arith))) h)
-    by_event (Some (Ended u)) at = subst (λ xs. IsTableOf is_start_of tasks xs table) (next (Ended u) at) (skipped is_start_of tasks (take i events) (Ended u) table (λ t. refl) h)
-
--- and a table of ends
-pub end_next : (tasks i : ℕ) (events : List TaskEvent) (table new : List (Option ℕ)) → IsTableOf is_end_of tasks (take i events) table → i < length events → new ≡ end_noted table (slice_get events i) i → IsTableOf is_end_of tasks (take (i + 1) events) new
-end_next tasks i events table new h below changed = subst (IsTableOf is_end_of tasks (take (i + 1) events)) (sym changed) (by_event (slice_get events i) refl)
-  where
-    next : (e : TaskEvent) → slice_get events i ≡ Some e → take i events ++ e ∷ [] ≡ take (i + 1) events
-    next e at = sym (take_next events i e at) ∙ ap (λ k. take k events) (let e : suc i ≡ i + 1 = omega arith in e)
-
-    by_event : (o : Option TaskEvent) → slice_get events i ≡ o → IsTableOf is_end_of tasks (take (i + 1) events) (end_noted table o i)
-    by_event None at = absurd (not_none events i below at)
-    by_event (Some (Started u)) at = subst (λ xs. IsTableOf is_end_of tasks xs table) (next (Started u) at) (skipped is_end_of tasks (take i events) (Started u) table (λ t. refl) h)
-    by_event (Some (Ended u)) at = subst (λ xs. IsTableOf is_end_of tasks xs (noted table u i)) (next (Ended u) at)
-        (put_down is_end_of tasks (take i events) (Ended u) table u i (λ t. refl) (sym (take_count events i (omega arith))) h)
+    by_event (Some e) at =
+        subst (λ xs. IsTableOf (is_of_kind kind) tasks xs (noted_task table (task_if kind e) i))
+        (sym (take_next events i e at) ∙ ap (λ k. take k events) (let same : suc i ≡ i + 1 = omega arith in same)) (by_kind kind e h)
 
 -- what the tables say of a task
-place_by : (is_event : ℕ → TaskEvent → Bool) (adds : List AddRow) (events : List TaskEvent) (table : List (Option ℕ)) (t : ℕ) → IsTableOf is_event (length adds) events table → place_in table t ≡ place_of is_event adds events t
+place_by : (is_event : ℕ → TaskEvent → Bool) (adds : List AddRow) (events : List TaskEvent) (table : List (Option ℕ)) (t : ℕ) → IsTableOf is_event (length adds) events table → noted_place table t ≡ place_of is_event adds events t
 place_by is_event adds events table t h = by_order (cases_lt t (length adds))
   where
-    known : (o : Option ℕ) → place_at (Some o) ≡ unwrap_or o 0
+    known : (o : Option ℕ) → known_place (Some o) ≡ unwrap_or o 0
     known None = refl
     known (Some k) = refl
 
-    by_order : (t < length adds) ⊎ (length adds ≤ t) → place_in table t ≡ place_of is_event adds events t
+    by_order : (t < length adds) ⊎ (length adds ≤ t) → noted_place table t ≡ place_of is_event adds events t
     by_order (inl below) =
         let less : ltb t (length adds) ≡ true = grind (arith, nat_tests) in
-        ap place_at (h.each t below) ∙ known (position (is_event t) events) ∙ ap (λ b. cond b (unwrap_or (position (is_event t) events) 0) 0) (sym less)
+        ap known_place (h.each t below) ∙ known (position (is_event t) events) ∙ ap (λ b. cond b (unwrap_or (position (is_event t) events) 0) 0) (sym less)
     by_order (inr past) =
         let more : ltb t (length adds) ≡ false = grind (arith, nat_tests) in
         let count = h.count in
-        ap place_at (get_past_end table t (omega arith)) ∙ ap (λ b. cond b (unwrap_or (position (is_event t) events) 0) 0) (sym more)
+        ap known_place (get_past_end table t (omega arith)) ∙ ap (λ b. cond b (unwrap_or (position (is_event t) events) 0) 0) (sym more)
 
 -- the journal by the tables is that of the events
 pub journal_by_tables : {E : Type 0} (net : NetRows) (adds : List AddRow) (events : List TaskEvent) (starts ends starts' ends' : List (Option ℕ)) (result : Result (List Entry) E) → IfOk result (λ journal. journal ≡ map (entry_by net adds starts' ends') events) → starts' ≡ starts → ends' ≡ ends →
@@ -192,6 +174,6 @@ journal_by_tables net adds events starts ends starts' ends' (Ok journal) is same
     ∙ map_same (entry_by net adds starts ends) (entry_of net adds events) events each
   where
     each : (event : TaskEvent) → entry_by net adds starts ends event ≡ entry_of net adds events event
-    each (Started t) = ap (Start t (cause_of (named_by (slice_get adds t))))
-        (map_same (part_in ends) (part_of adds events) (named_by (slice_get adds t)) (λ before. ap From (place_by is_end_of adds events ends before has_ends)))
-    each (Ended t) = ap (λ k. End k (given_by net t) false) (place_by is_start_of adds events starts t has_starts)
+    each (Started t) = ap (Start t (cause_after (named_by (slice_get adds t))))
+        (map_same (noted_part ends) (part_of adds events) (named_by (slice_get adds t)) (λ before. ap From (place_by is_end_of adds events ends before has_ends)))
+    each (Ended t) = ap (λ k. End k (end_gives net t) false) (place_by is_start_of adds events starts t has_starts)

@@ -1,3 +1,4 @@
 pub mod RunNets
 pub mod RunJournals
+pub mod WholeJournals
 pub mod inside

@@ -24,22 +24,22 @@ named_by None = []
 named_by (Some row) = row.after
 
 -- what the start of a task after these comes from
-abbrev pub cause_of : List ℕ → Cause
-cause_of [] = Source
-cause_of (before ∷ after) = Strong
+abbrev pub cause_after : List ℕ → Cause
+cause_after [] = Source
+cause_after (before ∷ after) = Strong
 
 -- what it finds of one of them: the value of its end
 abbrev pub part_of : List AddRow → List TaskEvent → ℕ → Part
 part_of adds events before = From (place_of is_end_of adds events before)
 
 -- the edges that the end of a task gives
-abbrev pub given_by : NetRows → ℕ → List ℕ
-given_by net t = if nat_lt t (length net.tasks) then out_edges net t else []
+abbrev pub end_gives : NetRows → ℕ → List ℕ
+end_gives net t = if nat_lt t (length net.tasks) then out_edges net t else []
 
 -- the entry of an event
 abbrev pub entry_of : NetRows → List AddRow → List TaskEvent → TaskEvent → Entry
-entry_of net adds events (Started t) = Start t (cause_of (named_by (slice_get adds t))) (map (part_of adds events) (named_by (slice_get adds t)))
-entry_of net adds events (Ended t) = End (place_of is_start_of adds events t) (given_by net t) false
+entry_of net adds events (Started t) = Start t (cause_after (named_by (slice_get adds t))) (map (part_of adds events) (named_by (slice_get adds t)))
+entry_of net adds events (Ended t) = End (place_of is_start_of adds events t) (end_gives net t) false
 
 -- the journal of events: the entry of each, at its index
 abbrev pub run_journal : NetRows → List AddRow → List TaskEvent → List Entry

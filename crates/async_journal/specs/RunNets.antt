@@ -17,16 +17,16 @@ abbrev pub edges_into : ℕ → List ℕ → List EdgeRow
 edges_into task before = map (λ from. record { from = from; to = task; start = false }) before
 
 -- the edges into the task of an add, in the order in which it names the tasks that they leave
-abbrev pub edges_of : AddRow → List EdgeRow
-edges_of row = edges_into row.id row.after
+abbrev pub edges_of_add : AddRow → List EdgeRow
+edges_of_add row = edges_into row.id row.after
 
 -- a net with so many plain tasks more, and with these edges more
 abbrev pub with_plain_tasks : NetRows → ℕ → NetRows
 with_plain_tasks net count = record { tasks = net.tasks ++ replicate count plain_task; edges = net.edges; sems = net.sems }
 
-abbrev pub with_edges : NetRows → List EdgeRow → NetRows
-with_edges net edges = record { tasks = net.tasks; edges = net.edges ++ edges; sems = net.sems }
+abbrev pub with_edge_rows : NetRows → List EdgeRow → NetRows
+with_edge_rows net edges = record { tasks = net.tasks; edges = net.edges ++ edges; sems = net.sems }
 
 -- the net of adds: a plain task for each, and the edges of all
 abbrev pub run_net : List AddRow → NetRows
-run_net adds = with_edges (with_plain_tasks empty_net (length adds)) (flat_map edges_of adds)
+run_net adds = with_edge_rows (with_plain_tasks empty_net (length adds)) (flat_map edges_of_add adds)

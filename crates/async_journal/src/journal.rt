@@ -1,28 +1,34 @@
 // The journal of a run of async tasks.
 ghost use Rattle.std.specs.Prelude.{◌≡◌, length, map, IfOk, Some, slice_get};
-ghost use Rattle.async_tasks.specs.Histories.{is_end_of, is_start_of};
 ghost use Rattle.journal_rules.specs.declared.entry.Entry.TheVariants.{Start};
-ghost use Rattle.async_journal.specs.RunJournals.{cause_of, given_by, named_by, run_journal};
-ghost use Rattle.async_journal.specs.inside.Tables.{IsTableOf, entry_by, part_in};
+ghost use Rattle.async_journal.specs.RunJournals.{cause_after, end_gives, named_by, run_journal};
+ghost use Rattle.async_journal.specs.RunNets.{run_net};
+ghost use Rattle.async_journal.specs.WholeJournals.{IsFinishedHistory, IsWholeJournal};
+ghost use Rattle.async_journal.specs.inside.Tables.{IsTableOf, is_of_kind, entry_by, noted_part};
 
-use crate::places::{ends_of, place_in, starts_of};
+use crate::places::{EventKind, event_places, noted_place};
 use async_tasks::{AddRow, TaskEvent};
 use journal_rules::{Cause, Entry, Journal, Part};
 use outside_io::{List, NoMemory};
 use std::alloc::Global;
 use task_graph::Net;
 
-/// The journal of these events, on the net of these adds: an entry for each, at its index.
+/// The journal of these events, on the net of these adds: an entry for each, at its index. Of a finished history it is
+/// legal, each start finds what it may, and it is that of a finished run of the net.
 pub fn journal_of_events(
     alloc: Global,
     net: &Net,
     adds: &[AddRow],
     events: &[TaskEvent],
 ) -> Result<Journal, NoMemory>
-    ensures { IfOk result (λ journal. journal ≡ run_journal net.now adds.now events.now) }
+    ensures journal { IfOk result
+        (λ journal. journal ≡ run_journal net.now adds.now events.now) }
+    ensures whole { IfOk result (λ journal. net.now ≡ run_net adds.now
+        → IsFinishedHistory adds.now events.now
+        → IsWholeJournal net.now (length adds.now) journal) }
 {
-    let starts = starts_of(alloc, adds.len(), events)?;
-    let ends = ends_of(alloc, adds.len(), events)?;
+    let starts = event_places(alloc, adds.len(), events, EventKind::Starts)?;
+    let ends = event_places(alloc, adds.len(), events, EventKind::Ends)?;
     entries_of(alloc, net, adds, &starts, &ends, events)
 }
 
@@ -60,8 +66,8 @@ fn entry_of(
     match event {
         TaskEvent::Started(task) => start_entry(alloc, ends, task, named_by(adds, task)),
         TaskEvent::Ended(task) => Ok(Entry::End {
-            start: place_in(starts, task),
-            gives: List::from_slice(alloc, given_by(net, task))?,
+            start: noted_place(starts, task),
+            gives: List::from_slice(alloc, end_gives(net, task))?,
             inner: false,
         }),
     }
@@ -85,15 +91,15 @@ fn start_entry(
     after: &[u32],
 ) -> Result<Entry, NoMemory>
     ensures { IfOk result
-        (λ entry. entry ≡ Start task (cause_of after.now) (map (part_in ends.now) after.now)) }
+        (λ entry. entry ≡ Start task (cause_after after.now) (map (noted_part ends.now) after.now)) }
 {
-    let cause = cause_of(after);
+    let cause = cause_after(after);
     let ins = parts_of(alloc, ends, after)?;
     Ok(Entry::Start { task, cause, ins })
 }
 
-fn cause_of(after: &[u32]) -> Cause
-    ensures { result ≡ cause_of after.now }
+fn cause_after(after: &[u32]) -> Cause
+    ensures { result ≡ cause_after after.now }
 {
     match after {
         [] => Cause::Source,
@@ -103,18 +109,18 @@ fn cause_of(after: &[u32]) -> Cause
 
 // What the start of a task after these tasks finds.
 fn parts_of(alloc: Global, ends: &[Option<u64>], after: &[u32]) -> Result<List<Part>, NoMemory>
-    ensures { IfOk result (λ ins. ins ≡ map (part_in ends.now) after.now) }
+    ensures { IfOk result (λ ins. ins ≡ map (noted_part ends.now) after.now) }
 {
     let mut ins = List::with_room(alloc, after.len())?;
     for before in after {
-        ins.push(Part::From(place_in(ends, *before)))?;
+        ins.push(Part::From(noted_place(ends, *before)))?;
     }
     Ok(ins)
 }
 
 // The edges that the end of a task gives.
-fn given_by(net: &Net, task: u32) -> &[u32]
-    ensures { result.now ≡ given_by net.now task }
+fn end_gives(net: &Net, task: u32) -> &[u32]
+    ensures { result.now ≡ end_gives net.now task }
 {
     if (task as usize) < net.tasks().len() {
         net.out_edges(task)

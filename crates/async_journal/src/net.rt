@@ -1,7 +1,7 @@
 // The net of a run of async tasks.
 ghost use Rattle.std.specs.Prelude.{◌≡◌, [], false, length, map, IfOk, OnOk};
 ghost use Rattle.std.specs.List.{flat_map};
-ghost use Rattle.async_journal.specs.RunNets.{edges_into, edges_of, run_net, with_edges, with_plain_tasks};
+ghost use Rattle.async_journal.specs.RunNets.{edges_into, edges_of_add, run_net, with_edge_rows, with_plain_tasks};
 
 use async_tasks::AddRow;
 use outside_io::List;
@@ -33,7 +33,7 @@ fn add_tasks(alloc: Global, builder: &mut NetBuilder, count: usize) -> Result<()
 
 // Adds the edges of all adds.
 fn add_edges(builder: &mut NetBuilder, adds: &[AddRow]) -> Result<(), BuildError>
-    ensures { OnOk result (builder.new ≡ with_edges builder.old (flat_map edges_of adds.now)) }
+    ensures { OnOk result (builder.new ≡ with_edge_rows builder.old (flat_map edges_of_add adds.now)) }
 {
     for row in adds {
         add_edges_into(builder, row.id, row.after.as_slice())?;
@@ -43,7 +43,7 @@ fn add_edges(builder: &mut NetBuilder, adds: &[AddRow]) -> Result<(), BuildError
 
 // Adds an edge from each of these tasks to another.
 fn add_edges_into(builder: &mut NetBuilder, task: u32, before: &[u32]) -> Result<(), BuildError>
-    ensures { OnOk result (builder.new ≡ with_edges builder.old (edges_into task before.now)) }
+    ensures { OnOk result (builder.new ≡ with_edge_rows builder.old (edges_into task before.now)) }
 {
     for from in before {
         builder.edge(*from, task, false)?;

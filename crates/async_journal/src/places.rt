@@ -1,47 +1,39 @@
 // At which index of the events each task was started and ended.
 ghost use Rattle.std.specs.Prelude.{◌≡◌, ◌<◌, length, replicate, None, IfOk, slice_get};
-ghost use Rattle.async_tasks.specs.Histories.{is_end_of, is_start_of};
-ghost use Rattle.async_journal.specs.inside.Tables.{IsTableOf, end_noted, noted, place_in, start_noted};
+ghost use Rattle.async_journal.specs.inside.Tables.{IsTableOf, is_of_kind, noted, noted_event, noted_place, task_if};
 
 use async_tasks::TaskEvent;
 use outside_io::NoMemory;
 use std::alloc::Global;
 
-/// Of each task the index of its first start.
-#[tactic(auto, using(crate::proofs::Tables::no_events, crate::proofs::Tables::all_events))]
-pub fn starts_of(
-    alloc: Global,
-    tasks: usize,
-    events: &[TaskEvent],
-) -> Result<Vec<Option<u64>>, NoMemory>
-    ensures { IfOk result (λ places. IsTableOf is_start_of tasks events.now places.items) }
-{
-    let mut places = nowhere(alloc, tasks)?;
-    for place in 0..events.len() {
-        note_start(&mut places, events, place);
-    }
-    Ok(places)
+/// Starts, or ends.
+#[derive(Clone, Copy)]
+pub enum EventKind {
+    Starts,
+    Ends,
 }
 
-/// Of each task the index of its first end.
+/// Of each task the index of its first event of a kind.
 #[tactic(auto, using(crate::proofs::Tables::no_events, crate::proofs::Tables::all_events))]
-pub fn ends_of(
+pub fn event_places(
     alloc: Global,
     tasks: usize,
     events: &[TaskEvent],
+    kind: EventKind,
 ) -> Result<Vec<Option<u64>>, NoMemory>
-    ensures { IfOk result (λ places. IsTableOf is_end_of tasks events.now places.items) }
+    ensures { IfOk result
+        (λ places. IsTableOf (is_of_kind kind) tasks events.now places.items) }
 {
     let mut places = nowhere(alloc, tasks)?;
     for place in 0..events.len() {
-        note_end(&mut places, events, place);
+        note_event(&mut places, events, place, kind);
     }
     Ok(places)
 }
 
 /// The index that a table has for a task, or 0.
-pub fn place_in(places: &[Option<u64>], task: u32) -> u64
-    ensures { result ≡ place_in places.now task }
+pub fn noted_place(places: &[Option<u64>], task: u32) -> u64
+    ensures { result ≡ noted_place places.now task }
 {
     match places.get(task as usize) {
         Some(Some(place)) => *place,
@@ -61,23 +53,28 @@ fn nowhere(alloc: Global, tasks: usize) -> Result<Vec<Option<u64>>, NoMemory>
     Ok(places)
 }
 
-fn note_start(places: &mut Vec<Option<u64>>, events: &[TaskEvent], place: usize)
-    ensures { places.new.items ≡ start_noted places.old.items (slice_get events.now place) place }
+// Puts down the index of an event, if it is of the kind.
+fn note_event(places: &mut Vec<Option<u64>>, events: &[TaskEvent], place: usize, kind: EventKind)
+    ensures { places.new.items
+        ≡ noted_event kind places.old.items (slice_get events.now place) place }
 {
-    match events.get(place) {
-        Some(TaskEvent::Started(task)) => note(places, *task, place as u64),
-        Some(TaskEvent::Ended(_)) => (),
-        None => (),
+    let Some(event) = events.get(place) else {
+        return;
+    };
+    if let Some(task) = task_if(kind, *event) {
+        note(places, task, place as u64);
     }
 }
 
-fn note_end(places: &mut Vec<Option<u64>>, events: &[TaskEvent], place: usize)
-    ensures { places.new.items ≡ end_noted places.old.items (slice_get events.now place) place }
+// The task of an event, if the event is of the kind.
+fn task_if(kind: EventKind, event: TaskEvent) -> Option<u32>
+    ensures { result ≡ task_if kind event }
 {
-    match events.get(place) {
-        Some(TaskEvent::Started(_)) => (),
-        Some(TaskEvent::Ended(task)) => note(places, *task, place as u64),
-        None => (),
+    match (kind, event) {
+        (EventKind::Starts, TaskEvent::Started(task)) => Some(task),
+        (EventKind::Ends, TaskEvent::Ended(task)) => Some(task),
+        (EventKind::Starts, TaskEvent::Ended(_)) => None,
+        (EventKind::Ends, TaskEvent::Started(_)) => None,
     }
 }
 

@@ -12,7 +12,7 @@ use Rattle.async_tasks.specs.declared.history.AddRow.{AddRow}
 use Rattle.async_tasks.specs.declared.history.TaskEvent.{TaskEvent}
 use Rattle.async_tasks.specs.declared.history.TaskEvent.TheVariants.{Started, Ended}
 use Rattle.async_tasks.specs.declared.outstanding.Outstanding.{Outstanding}
-use Rattle.async_tasks.specs.declared.outstanding.Outstanding.TheVariants.{Pass, Running}
+use Rattle.async_tasks.specs.declared.outstanding.Outstanding.TheVariants.{Pass, Running, Recorded}
 use Rattle.async_tasks.specs.declared.stage.Stage.{Stage}
 use Rattle.async_tasks.specs.declared.stage.Stage.TheVariants.{Waiting, Open}
 use Rattle.async_tasks.specs.Histories.{times_started, AllEnded, RowRule, EventRule, IsHistory, found}
@@ -79,6 +79,7 @@ module _ {W V : Type 0} (answers : W → List V → V → Type 0) (book : BookHi
     (fits.0.0 ++ row ∷ [], ap (λ rs. rs ++ row ∷ []) fits.0.1 ∙ append_assoc seen.value.items fits.0.0 (row ∷ [])),
     rows_of_other c book.rows row (λ same. none n (Pass c seen) at (sym (ap caller_of same))) ∙ fits.1,
   )
+  item_kept h none n (Recorded t place) at fits = fits
   item_kept h none n (Running t w ins) at fits = (
     get_kept book.stages Waiting Open t fits.0,
     get_kept book.works work (arc_value w.value) t fits.1,

@@ -35,18 +35,18 @@ module _ {W V : Type 0} where
     );
   }
 
--- the last item of one list goes to another
+-- the last item of one list goes to another, as what is made of it
 all_front : {X : Type 0} (P : X → Type 0) (xs : List X) (x : X) → AllByRecursion P (xs ++ x ∷ []) → AllByRecursion P xs × P x
 all_front P [] x h = (tt, h.0)
 all_front P (y ∷ ys) x h = let r = all_front P ys x h.1 in ((h.0, r.0), r.1)
 
-pub moved : {X : Type 0} (P : X → Type 0) (xs xs' ys ys' : List X) (x : X) → xs ≡ xs' ++ x ∷ [] → ys' ≡ ys ++ x ∷ [] → All P xs → All P ys → All P xs' × All P ys'
-moved P xs xs' ys ys' x from to hx hy =
+pub moved : {X Y : Type 0} (P : X → Type 0) (Q : Y → Type 0) (xs xs' : List X) (ys ys' : List Y) (x : X) (y : Y) → xs ≡ xs' ++ x ∷ [] → ys' ≡ ys ++ y ∷ [] → (P x → Q y) → All P xs → All Q ys → All P xs' × All Q ys'
+moved P Q xs xs' ys ys' x y from to made hx hy =
     let r = all_front P xs' x (subst (AllByRecursion P) from (recursion_from_All P xs hx)) in
-    (All-from_recursion P xs' r.0, subst (All P) (sym to) (All-push P ys x hy r.1))
+    (All-from_recursion P xs' r.0, subst (All Q) (sym to) (All-push Q ys y hy (made r.1)))
 
-pub moved_length : {X : Type 0} (xs xs' ys ys' : List X) (x : X) (n : ℕ) → xs ≡ xs' ++ x ∷ [] → ys' ≡ ys ++ x ∷ [] → length xs + length ys ≡ n → length xs' + length ys' ≡ n
-moved_length xs xs' ys ys' x n from to same =
+pub moved_length : {X Y : Type 0} (xs xs' : List X) (ys ys' : List Y) (x : X) (y : Y) (n : ℕ) → xs ≡ xs' ++ x ∷ [] → ys' ≡ ys ++ y ∷ [] → length xs + length ys ≡ n → length xs' + length ys' ≡ n
+moved_length xs xs' ys ys' x y n from to same =
     let a : length xs ≡ length xs' + 1 = ap length from ∙ length_push xs' x in
-    let b : length ys' ≡ length ys + 1 = ap length to ∙ length_push ys x in
+    let b : length ys' ≡ length ys + 1 = ap length to ∙ length_push ys y in
     omega arith

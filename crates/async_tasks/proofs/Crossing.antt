@@ -25,10 +25,6 @@ ruleset tables = (crosses, frees, heap.the_field_send, heap.the_field_sync, heap
 task_send : IsSend ready_task.the_row
 task_send = search tables depth 60 fits 20000
 
--- a seat is sent
-pub seat_send : IsSend async_seat.the_row
-seat_send = search (task_send, owner.the_send, tables) depth 60 fits 20000
-
 module _ (T V : RattleType) (J : AsyncWork.Ghosts T.Denot V.Denot) (s : IsSend T) (y : IsSync T) (sv : IsSend V) (yv : IsSync V) where
   outstanding_send : IsSend (outstanding.the_row T V)
   outstanding_send = search tables depth 60 fits 20000
@@ -36,6 +32,10 @@ module _ (T V : RattleType) (J : AsyncWork.Ghosts T.Denot V.Denot) (s : IsSend T
   -- a pass is sent
   pub pass_send : IsSend (pass.the_row T V J)
   pass_send = search (outstanding_send, tables) depth 60 fits 20000
+
+  -- a seat is sent
+  pub seat_send : IsSend (async_seat.the_row T V J)
+  seat_send = search (outstanding_send, task_send, owner.the_send, tables) depth 60 fits 20000
 
   state_send : IsSend (state.the_row T V J)
   state_send = search (outstanding_send, tables) depth 60 fits 20000

@@ -1,6 +1,6 @@
 -- An end keeps what holds of a book.
 use Rattle.std.proofs.Common.{◌≡◌, ◌≢◌, ◌⊎◌, inl, inr, ℕ, ◌+◌, ◌<◌, ◌≤◌, List, [], ◌∷◌, ◌++◌, length, map, set, Option, Some, None, refl, sym, ap, ◌∙◌, subst, arith, length-set}
-use Rattle.std.specs.Prelude.{slice_get, IsSomeAnd}
+use Rattle.std.specs.Prelude.{slice_get, IsSomeAnd, IfSome}
 use Rattle.std.specs.Arc.{arc_value}
 use Rattle.std.specs.declared.alloc.Global.{Global}
 use Rattle.std.specs.declared.sync.Arc.{Arc}
@@ -11,17 +11,17 @@ use Rattle.async_tasks.specs.declared.history.AddRow.{AddRow}
 use Rattle.async_tasks.specs.declared.history.TaskEvent.{TaskEvent}
 use Rattle.async_tasks.specs.declared.history.TaskEvent.TheVariants.{Ended}
 use Rattle.async_tasks.specs.declared.outstanding.Outstanding.{Outstanding}
-use Rattle.async_tasks.specs.declared.outstanding.Outstanding.TheVariants.{Pass, Running}
+use Rattle.async_tasks.specs.declared.outstanding.Outstanding.TheVariants.{Pass, Running, Recorded}
 use Rattle.async_tasks.specs.declared.stage.Stage.{Stage}
 use Rattle.async_tasks.specs.declared.stage.Stage.TheVariants.{Waiting, Open, Over}
 use Rattle.async_tasks.specs.Histories.{times_started, times_ended, AllEnded, EventRule, IsHistory, found}
-use Rattle.async_tasks.specs.Books.{BookHistory, book_history, value_in, value_at, holder_of, task_of, NothingOut}
+use Rattle.async_tasks.specs.Books.{BookHistory, book_history, value_in, value_at, holder_of, task_of, end_at, NothingOut}
 use Rattle.async_tasks.specs.Adds.{with_end, with_items, EndsTask}
-use Rattle.async_tasks.specs.Starts.{OpenStart, IsTicketFor, open_start}
+use Rattle.async_tasks.specs.Starts.{OpenStart, IsTicketFor, open_start, EndRecord, IsEndAt, IsAfter}
 use Rattle.atomic_table.specs.Seated.{TableId}
-use Rattle.async_tasks.specs.inside.Keeps.{StageFits, ItemFits, KeepsBook, HasRoom}
-use Rattle.async_tasks.proofs.Lists.{some_same, get_set_same, get_set_other, some_at, all_map}
-use Rattle.async_tasks.proofs.Issuing.{keeps_redeem, nothing_left}
+use Rattle.async_tasks.specs.inside.Keeps.{StageFits, ItemFits, KeepsBook, HasEventRoom}
+use Rattle.async_tasks.proofs.Lists.{some_same, get_kept, get_at_end, get_in_range, get_set_same, get_set_other, some_at, all_map}
+use Rattle.async_tasks.proofs.Issuing.{keeps_redeem, keeps_issue, nothing_left}
 use Rattle.async_tasks.proofs.Telling.{left_set, found_same, started_as_before, ended_here, ended_elsewhere, started_of_value}
 
 module _ {W V : Type 0} (answers : W → List V → V → Type 0) (book : BookHistory W V) (t : ℕ) (work : W) (ins : List V) (value : Arc V Global) where
@@ -91,6 +91,7 @@ module _ {W V : Type 0} (answers : W → List V → V → Type 0) (book : BookHi
 
     item_kept : (n : ℕ) (item : Outstanding W V) → slice_get book.items n ≡ Some (Some item) → ItemFits book item → ItemFits more item
     item_kept n (Pass c seen) at_item fits = fits
+    item_kept n (Recorded u place) at_item fits = get_kept book.events (Ended t) (Ended u) place fits
     item_kept n (Running u w found_ins) at_item fits =
         (get_set_other book.stages t u (Over value) other ∙ fits.0, fits.1, more_found (slice_get book.rows u) refl fits.2)
       where
@@ -118,6 +119,18 @@ module _ {W V : Type 0} (answers : W → List V → V → Type 0) (book : BookHi
       once = h.once;
     }
 
+-- nothing is outstanding for the end that comes next
+none_recorded : {W V : Type 0} (answers : W → List V → V → Type 0) (book : BookHistory W V) → KeepsBook answers book → NothingOut (end_at (length book.events)) book.items
+none_recorded answers book h n (Pass c seen) at same = absurd (cc)
+none_recorded answers book h n (Running u w ins) at same = absurd (cc)
+none_recorded answers book h n (Recorded u place) at same =
+    let below = get_in_range book.events place (Ended u) (h.fits n (Recorded u place) at) in
+    let here = same_place same in
+    absurd (omega (arith, below, here))
+  where
+    same_place : end_at place ≡ end_at (length book.events) → place ≡ length book.events
+    same_place e = cc
+
 -- An end keeps what holds of a book, by its parts.
 module _ {W V : Type 0} (answers : W → List V → V → Type 0) (register : TableId) (callers : ℕ) (rows : List AddRow) (events : List TaskEvent) (works : List W) (stages : List (Stage V)) (items : List (Option (Outstanding W V))) where
   abbrev book : BookHistory W V
@@ -131,6 +144,7 @@ module _ {W V : Type 0} (answers : W → List V → V → Type 0) (register : Ta
 
   pub is_open : (t : ℕ) (w : W) (ins : List V) (n : ℕ) (item : Outstanding W V) → KeepsBook answers book → slice_get items n ≡ Some (Some item) → IsTicketFor t w ins item → HasOpen t w ins
   is_open t w ins n (Pass c seen) h at is = absurd is
+  is_open t w ins n (Recorded u place) h at is = absurd is
   is_open t w ins n (Running u work values) h at is =
       let fits = h.fits n (Running u work values) at in
       record {
@@ -142,24 +156,28 @@ module _ {W V : Type 0} (answers : W → List V → V → Type 0) (register : Ta
 
   ticket_holder : (t : ℕ) (w : W) (ins : List V) (item : Outstanding W V) → IsTicketFor t w ins item → holder_of item ≡ task_of t
   ticket_holder t w ins (Pass c seen) is = absurd is
+  ticket_holder t w ins (Recorded u place) is = absurd is
   ticket_holder t w ins (Running u work values) is = ap task_of is.0
 
-  pub ended : (events' : List TaskEvent) (stages' : List (Stage V)) (items' : List (Option (Outstanding W V))) (t : ℕ) (w : W) (ins : List V) (value : Arc V Global) (n : ℕ) (item : Outstanding W V) →
+  pub ended : (events' : List TaskEvent) (stages' : List (Stage V)) (items' : List (Option (Outstanding W V))) (t : ℕ) (w : W) (ins : List V) (value : Arc V Global) (n : ℕ) (item : Outstanding W V) (place : ℕ) →
       KeepsBook answers book → slice_get items n ≡ Some (Some item) → IsTicketFor t w ins item → answers w ins (arc_value value) →
-      events' ≡ events ++ Ended t ∷ [] → stages' ≡ set stages t (Over value) → items' ≡ set items n None →
+      events' ≡ events ++ Ended t ∷ [] → stages' ≡ set stages t (Over value) → items' ≡ set items n None ++ Some (Recorded t place) ∷ [] → place ≡ length events →
       KeepsBook answers (book_history register callers rows events' works stages' items')
-  ended events' stages' items' t w ins value n item h at is answered same_events same_stages same_items =
+  ended events' stages' items' t w ins value n item place h at is answered same_events same_stages same_items same_place =
       let o = is_open t w ins n item h at is in
-      rw (same_events, same_stages, same_items)
-      (keeps_end answers (with_items book (set items n None)) t w ins value (keeps_redeem answers book n h) o.running o.has_work o.has_ins
+      let left = keeps_redeem answers book n h in
+      rw (same_events, same_stages, same_items, same_place)
+      (keeps_issue answers (with_end (with_items book (set items n None)) t value) (Recorded t (length events))
+      (keeps_end answers (with_items book (set items n None)) t w ins value left o.running o.has_work o.has_ins
       (subst (λ holder. NothingOut holder (set items n None)) (ticket_holder t w ins item is) (nothing_left items n item h.once at)) answered)
+      (get_at_end events (Ended t)) (none_recorded answers (with_items book (set items n None)) left))
 
   -- the counts of an open start
   pub open_counts : (t : ℕ) (w : W) (ins : List V) → KeepsBook answers book → HasOpen t w ins → (times_started events t ≡ 1) × (times_ended events t ≡ 0)
   open_counts t w ins h o = subst (StageFits events t) o.running (h.staged t)
 
   -- there is memory for its end
-  pub room_to_end : (t : ℕ) (w : W) (ins : List V) (value : Arc V Global) (capacity : ℕ) → KeepsBook answers book → HasOpen t w ins → HasRoom (length rows) capacity → length events < capacity
+  pub room_to_end : (t : ℕ) (w : W) (ins : List V) (value : Arc V Global) (capacity : ℕ) → KeepsBook answers book → HasOpen t w ins → HasEventRoom (length rows) capacity → length events < capacity
   room_to_end t w ins value capacity h o room = omega (arith, left_set stages t Open (Over value) o.running, h.event_count)
 
   -- What an end says, by the parts of the book.
@@ -175,3 +193,14 @@ module _ {W V : Type 0} (answers : W → List V → V → Type 0) (register : Ta
         work = o.has_work;
         book = refl;
       }
+
+-- An end that comes back is in the history.
+pub recorded_at : {W V : Type 0} (answers : W → List V → V → Type 0) (book : BookHistory W V) (n t place : ℕ) (item : Outstanding W V) → KeepsBook answers book → slice_get book.items n ≡ Some (Some item) → IsEndAt t place item → slice_get book.events place ≡ Some (Ended t)
+recorded_at answers book n t place (Pass c seen) h at is = absurd is
+recorded_at answers book n t place (Running u w ins) h at is = absurd is
+recorded_at answers book n t place (Recorded u p) h at is = ap (slice_get book.events) (sym is.1) ∙ h.fits n (Recorded u p) at ∙ ap (λ k. Some (Ended k)) is.0
+
+-- So the next one comes after it.
+pub next_is_after : (last : Option EndRecord) (events : List TaskEvent) (place : ℕ) → IfSome last (λ (end : EndRecord). slice_get events end.place ≡ Some (Ended end.task)) → place ≡ length events → IsAfter last place
+next_is_after None events place was next = tt
+next_is_after (Some end) events place was next = let below = get_in_range events end.place (Ended end.task) was in omega (arith, below, next)

@@ -7,7 +7,7 @@ use Rattle.async_tasks.specs.declared.history.TaskEvent.{TaskEvent}
 use Rattle.async_tasks.specs.declared.stage.Stage.{Stage}
 use Rattle.async_tasks.specs.declared.outstanding.Outstanding.{Outstanding}
 use Rattle.std.proofs.lemmas.List.{append-nil}
-use Rattle.async_tasks.specs.declared.outstanding.Outstanding.TheVariants.{Pass, Running}
+use Rattle.async_tasks.specs.declared.outstanding.Outstanding.TheVariants.{Pass, Running, Recorded}
 use Rattle.async_tasks.specs.Histories.{rows_of}
 use Rattle.async_tasks.specs.Starts.{IsPassFor, rows_seen, HasSeen}
 use Rattle.async_tasks.specs.Books.{BookHistory, book_history, Holder, holder_of, caller_of, NothingOut}
@@ -85,15 +85,18 @@ module _ {W V : Type 0} where
 pub seen_by : {W V : Type 0} (book : BookHistory W V) (caller : ℕ) (item : Outstanding W V) → ItemFits book item → IsPassFor caller item → HasSeen book.rows caller (rows_seen item)
 seen_by book caller (Pass c front) fits is = subst (λ k. HasSeen book.rows k front.value.items) is fits
 seen_by book caller (Running u work values) fits is = absurd is
+seen_by book caller (Recorded u place) fits is = absurd is
 
 pub pass_holder : {W V : Type 0} (caller : ℕ) (item : Outstanding W V) → IsPassFor caller item → holder_of item ≡ caller_of caller
 pass_holder caller (Pass c front) is = ap caller_of is
 pass_holder caller (Running u work values) is = absurd is
+pass_holder caller (Recorded u place) is = absurd is
 
 -- A pass that has seen all rows fits.
 pub pass_fits : {W V : Type 0} (book : BookHistory W V) (caller : ℕ) (item : Outstanding W V) → IsPassFor caller item → rows_seen item ≡ book.rows → ItemFits book item
 pass_fits book caller (Pass c front) is all = (([], sym all ∙ sym (append-nil front.value.items)), ap (rows_of c) (sym all))
 pass_fits book caller (Running u work values) is all = absurd is
+pass_fits book caller (Recorded u place) is all = absurd is
 
 -- other callers have nothing out, as before
 pub others_out : {W V : Type 0} (items items' : List (Option (Outstanding W V))) (caller c : ℕ) (item : Outstanding W V) → items' ≡ items ++ Some item ∷ [] → IsPassFor caller item → NothingOut (caller_of c) items → (c ≡ caller → ⊥) → NothingOut (caller_of c) items'

@@ -11,9 +11,9 @@ use Rattle.std.proofs.lemmas.List.{length_push}
 use Rattle.journal_rules.proofs.Snoc.{EachAfter-push}
 use Rattle.async_tasks.specs.declared.history.AddRow.{AddRow}
 use Rattle.async_tasks.specs.declared.history.TaskEvent.{TaskEvent}
-use Rattle.async_tasks.specs.declared.history.TaskEvent.TheVariants.{Started}
+use Rattle.async_tasks.specs.declared.history.TaskEvent.TheVariants.{Started, Ended}
 use Rattle.async_tasks.specs.declared.outstanding.Outstanding.{Outstanding}
-use Rattle.async_tasks.specs.declared.outstanding.Outstanding.TheVariants.{Pass, Running}
+use Rattle.async_tasks.specs.declared.outstanding.Outstanding.TheVariants.{Pass, Running, Recorded}
 use Rattle.async_tasks.specs.declared.stage.Stage.{Stage}
 use Rattle.async_tasks.specs.declared.stage.Stage.TheVariants.{Waiting, Open, Over}
 use Rattle.async_tasks.specs.Histories.{times_started, times_ended, AllEnded, EventRule, IsHistory, found}
@@ -22,8 +22,8 @@ use Rattle.async_tasks.specs.Adds.{CanStart, with_start, StartsTask}
 use Rattle.atomic_table.specs.Seated.{TableId}
 use Rattle.async_tasks.specs.Starts.{IsTicketFor, open_start}
 use Rattle.async_tasks.specs.inside.Ready.{is_over, IsReady}
-use Rattle.async_tasks.specs.inside.Keeps.{StageFits, ItemFits, KeepsBook, HasRoom}
-use Rattle.async_tasks.proofs.Lists.{some_same, get_in_range, not_none, both_of, get_set_same, get_set_other, some_at, all_map, all_at}
+use Rattle.async_tasks.specs.inside.Keeps.{StageFits, ItemFits, KeepsBook, HasEventRoom}
+use Rattle.async_tasks.proofs.Lists.{some_same, get_in_range, get_kept, not_none, both_of, get_set_same, get_set_other, some_at, all_map, all_at}
 use Rattle.async_tasks.proofs.Issuing.{keeps_issue}
 use Rattle.async_tasks.proofs.Telling.{left_set, found_same, all_same, value_opened, started_here, started_elsewhere, ended_as_before}
 
@@ -84,6 +84,7 @@ module _ {W V : Type 0} (answers : W → List V → V → Type 0) (book : BookHi
 
     item_kept : (n : ℕ) (item : Outstanding W V) → slice_get book.items n ≡ Some (Some item) → ItemFits book item → ItemFits more item
     item_kept n (Pass c seen) at_item fits = fits
+    item_kept n (Recorded u place) at_item fits = get_kept book.events (Started t) (Ended u) place fits
     item_kept n (Running u w ins) at_item fits =
         (get_set_other book.stages t u Open other ∙ fits.0, fits.1, more_found (slice_get book.rows u) fits.2)
       where
@@ -97,6 +98,7 @@ module _ {W V : Type 0} (answers : W → List V → V → Type 0) (book : BookHi
     -- nothing is outstanding for a task that waits
     pub none_running : NothingOut (task_of t) book.items
     none_running n (Pass c seen) at_item same = absurd (cc)
+    none_running n (Recorded u place) at_item same = absurd (cc)
     none_running n (Running u w ins) at_item same = absurd (let e : Some Open ≡ Some Waiting = sym (h.fits n (Running u w ins) at_item).0 ∙ ap (slice_get book.stages) (holder_task same) ∙ waiting in cc)
       where
         holder_task : task_of u ≡ task_of t → u ≡ t
@@ -181,6 +183,7 @@ module _ {W V : Type 0} (answers : W → List V → V → Type 0) (register : Ta
   -- the ticket of a start that was just made fits
   ticket_fits : (t : ℕ) (w : W) (ins : List V) (row : AddRow) (item : Outstanding W V) → KeepsBook answers book → slice_get stages t ≡ Some Waiting → slice_get rows t ≡ Some row → AllEnded events row.after → slice_get works t ≡ Some w → ins ≡ found (value_at stages) row.after → IsTicketFor t w ins item → ItemFits (with_start book t) item
   ticket_fits t w ins row (Pass c seen) h waiting at ended has_work has_ins is = absurd is
+  ticket_fits t w ins row (Recorded u place) h waiting at ended has_work has_ins is = absurd is
   ticket_fits t w ins row (Running u work values) h waiting at ended has_work has_ins is = (
     subst (λ k. slice_get (set stages t Open) k ≡ Some Open) (sym is.0) (get_set_same stages t Waiting Open waiting),
     ap (slice_get works) is.0 ∙ has_work ∙ ap Some (sym is.1),
@@ -191,6 +194,7 @@ module _ {W V : Type 0} (answers : W → List V → V → Type 0) (register : Ta
 
   ticket_holder : (t : ℕ) (w : W) (ins : List V) (item : Outstanding W V) → IsTicketFor t w ins item → holder_of item ≡ task_of t
   ticket_holder t w ins (Pass c seen) is = absurd is
+  ticket_holder t w ins (Recorded u place) is = absurd is
   ticket_holder t w ins (Running u work values) is = ap task_of is.0
 
   -- A start keeps what holds of a book, by its parts.
@@ -221,7 +225,7 @@ module _ {W V : Type 0} (answers : W → List V → V → Type 0) (register : Ta
       (omega (arith, below, h.stage_count), omega (arith, below, h.stage_count, h.work_count))
 
   -- there is memory for its start
-  pub room_to_start : (t capacity : ℕ) → KeepsBook answers book → IsReady rows stages t → HasRoom (length rows) capacity → length events < capacity
+  pub room_to_start : (t capacity : ℕ) → KeepsBook answers book → IsReady rows stages t → HasEventRoom (length rows) capacity → length events < capacity
   room_to_start t capacity h ready room = omega (arith, left_set stages t Waiting Open ready.0, h.event_count)
 
   -- the inputs of a task that is ready, from its row

@@ -1,9 +1,12 @@
 -- Books that several threads share, as contracts see them.
-use Rattle.std.specs.Prelude.{◌≡◌, ℕ, ◌+◌, ◌<◌, List, [], ◌∷◌, ◌++◌, length, Some, slice_get}
+use Rattle.std.specs.Prelude.{◌≡◌, ℕ, ◌+◌, ◌<◌, List, [], ◌∷◌, ◌++◌, length, Option, Some, None, slice_get, IsSomeAnd, IfSome}
 use Rattle.atomic_table.specs.Seated.{TableId}
-use Rattle.ready_deques.specs.Lists.{OwnerState}
+use Rattle.ready_deques.specs.Lists.{OwnerState, IsOwnerOf}
 use Rattle.ready_deques.specs.declared.ready.Ready.{Ready}
 use Rattle.ready_deques.specs.declared.tagged.Tagged.{Ghosts}
+use Rattle.async_tasks.specs.declared.seat.AsyncStep.{AsyncStep}
+use Rattle.async_tasks.specs.declared.seat.AsyncStep.TheVariants.{Ran, Empty}
+use Rattle.async_tasks.specs.Starts.{EndRecord, IsAfter}
 use Rattle.async_tasks.specs.Passes.{PassState, IsTicketOf, seen, kept}
 
 -- The table of a book's tickets, how many callers it has, and the table of the count word of its list of ready tasks
@@ -29,9 +32,36 @@ pub record HasAdded {W V : Type 0} (old : PassState W V) (id : ℕ) (after : Lis
   pub last : length (seen new) ≡ id + 1
   pub kept_it : kept new ≡ kept old ++ (id, after) ∷ []
 
--- the owner that a seat has is one of this book's list
-abbrev pub IsSeatOf : AsyncBookState → OwnerState → Type 0
-IsSeatOf book seat = (seat.tag ≡ []) × (seat.counts ≡ book.counts)
+-- an owner is one of the list with this count word, and the list has the empty tag
+abbrev pub IsOwnerAt : TableId → OwnerState → Type 0
+IsOwnerAt counts owner = (owner.tag ≡ []) × (owner.counts ≡ counts)
+
+-- A seat: its owner of a list of ready tasks, and the end of the task that it ran last, if it ran one
+pub record SeatState : Type 0 where
+  pub owner : OwnerState
+  pub last : Option EndRecord
+
+abbrev pub seat_state : OwnerState → Option EndRecord → SeatState
+seat_state owner last = record { owner = owner; last = last }
+
+-- the owner that a seat has is one of this book's list, and its last end was recorded by this book
+pub record IsSeatOf (book : AsyncBookState) (seat : SeatState) : Type 0 where
+  pub owner : IsOwnerAt book.counts seat.owner
+  pub last : IfSome seat.last (λ (end : EndRecord). end.register ≡ book.register)
+
+-- a seat has an owner of this list, and ran no task
+abbrev pub IsNewSeatOf : {T : Type 0} {G : Ghosts T} → Ready T G → SeatState → Type 0
+IsNewSeatOf ready seat = IsOwnerOf ready seat.owner × (seat.last ≡ None)
+
+-- the seat was given the end of this task, which the book recorded after the end that the seat had
+abbrev pub HasRun : AsyncBookState → SeatState → ℕ → SeatState → Type 0
+HasRun book old task new =
+    IsSomeAnd new.last (λ (end : EndRecord). (end.register ≡ book.register) × (end.task ≡ task) × IsAfter old.last end.place)
+
+-- A step names the task whose end the seat was given, or found the list of ready tasks empty.
+abbrev pub HasStepped : AsyncBookState → SeatState → AsyncStep → SeatState → Type 0
+HasStepped book old (Ran task) new = HasRun book old task new
+HasStepped book old Empty new = (old.owner.zeros < new.owner.zeros) × (new.last ≡ old.last)
 
 -- these are all passes of the book, each at its caller's place
 pub record ArePassesOf {W V : Type 0} (book : AsyncBookState) (passes : List (PassState W V)) : Type 0 where
@@ -45,7 +75,3 @@ AreFirstPasses {W} {V} register passes = (c : ℕ) (pass : PassState W V) → sl
 -- how many callers a book may have
 abbrev pub caller_limit : ℕ
 caller_limit = 64
-
--- an owner is one of the list with this count word, and the list has the empty tag
-abbrev pub IsOwnerAt : TableId → OwnerState → Type 0
-IsOwnerAt counts owner = (owner.tag ≡ []) × (owner.counts ≡ counts)

@@ -5,7 +5,7 @@ use Rattle.atomic_table.specs.Seated.{TableId}
 use Rattle.async_tasks.specs.declared.history.AddRow.{AddRow}
 use Rattle.async_tasks.specs.declared.history.TaskEvent.{TaskEvent}
 use Rattle.async_tasks.specs.declared.outstanding.Outstanding.{Outstanding}
-use Rattle.async_tasks.specs.declared.outstanding.Outstanding.TheVariants.{Pass, Running}
+use Rattle.async_tasks.specs.declared.outstanding.Outstanding.TheVariants.{Pass, Running, Recorded}
 use Rattle.async_tasks.specs.declared.stage.Stage.{Stage}
 use Rattle.async_tasks.specs.declared.stage.Stage.TheVariants.{Waiting, Open, Over}
 
@@ -43,14 +43,16 @@ value_in (Some (Over value)) = Some (arc_value value)
 abbrev pub value_at : {V : Type 0} → List (Stage V) → ℕ → Option V
 value_at stages t = value_in (slice_get stages t)
 
--- who a ticket is for: a caller, or a task
+-- who a ticket is for: a caller, a task, or the end at an index
 pub data Holder : Type 0 where
   caller_of : ℕ → Holder
   task_of : ℕ → Holder
+  end_at : ℕ → Holder
 
 abbrev pub holder_of : {W V : Type 0} → Outstanding W V → Holder
 holder_of (Pass caller seen) = caller_of caller
 holder_of (Running task work ins) = task_of task
+holder_of (Recorded task place) = end_at place
 
 -- nothing is outstanding for it
 abbrev pub NothingOut : {W V : Type 0} → Holder → List (Option (Outstanding W V)) → Type 0

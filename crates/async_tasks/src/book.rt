@@ -5,10 +5,12 @@ ghost use Rattle.keyed_lock.specs.Locks.{made_with};
 ghost use Rattle.async_tasks.specs.Adds.{after_limit, RefusesAdd};
 ghost use Rattle.async_tasks.specs.AsyncBooks.{IsPassOf, HasAdded};
 ghost use Rattle.async_tasks.specs.Passes.{seen, kept, LooksAgain};
+ghost use Rattle.async_tasks.specs.Starts.{IsAfter};
 
 use crate::outstanding::Outstanding;
 use crate::pass::Pass;
 use crate::ready_task::ReadyTask;
+use crate::recorded_end::RecordedEnd;
 use crate::started::Started;
 use crate::state::{AddError, BookState};
 use crate::work::AsyncWork;
@@ -181,7 +183,7 @@ impl<W: AsyncWork> AsyncBook<W> {
         started
     }
 
-    /// Ends a start with a value, and queues what is ready by that.
+    /// Ends a start with a value, and queues what is ready by that. The end is recorded after the last one.
     #[tactic(auto, using(crate::proofs::Keys::same_register))]
     pub(crate) fn end<R: Wait>(
         &self,
@@ -189,18 +191,24 @@ impl<W: AsyncWork> AsyncBook<W> {
         owner: &mut Owner<ReadyTask>,
         started: Started<W>,
         value: Arc<W::V>,
-    )
+        last: Option<RecordedEnd<W>>,
+    ) -> RecordedEnd<W>
         requires owner { owner.old.tag ≡ [] }
         requires started { started.register ≡ self.now.register }
         requires answered { W.answers started.work started.ins (arc_value value) }
-        ensures { owner.new ≡ owner.old }
+        requires last { IfSome last (λ end. end.register ≡ self.now.register) }
+        ensures owner { owner.new ≡ owner.old }
+        ensures recorded { (result.register ≡ self.now.register)
+            × (result.task ≡ started.task) }
+        ensures later { IsAfter last result.place }
     {
         let Held {
             value: mut state,
             pass,
         } = self.lock.take(rt);
-        state.end_in(&self.register, started, value);
+        let end = state.end_after(&self.register, started, value, last);
         let _ = self.push_ready(rt, owner, &mut state); // what is left over is queued by a later step
         self.lock.put(Held { value: state, pass });
+        end
     }
 }

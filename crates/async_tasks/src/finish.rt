@@ -32,8 +32,8 @@ pub enum Finished<W: AsyncWork> {
 }
 
 impl<W: AsyncWork> AsyncBook<W> {
-    /// Ends the book, if each of its tasks ended. It takes no memory, and may wait. `Open` has a task without an end, and
-    /// is returned exactly where there is one. A book that is open can be added to, stepped and finished as before.
+    /// Ends the book, if each of its tasks ended. It takes no memory, and may wait. `Open` has a task without an end,
+    /// and is returned exactly where there is one. A book that is open can be added to, stepped and finished as before.
     pub fn finish<R: Wait>(self, rt: &R, mut passes: Vec<Pass<W>>) -> Finished<W>
         requires { ArePassesOf self passes.items }
         ensures { IsFinished W.answers self passes.items result }

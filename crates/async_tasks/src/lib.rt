@@ -12,25 +12,26 @@
 //! after its start. It finds the values of the tasks that it names, in the order in which they are named, and its value
 //! is one to which its work may come on them.
 //!
-//! Whether a task may start is looked up where it starts, by one look at each task that it names. `Links` only says when
-//! a start is tried: it counts how many tasks each one waits for, and has a stack of those that are ready. An add costs
-//! as much as it names tasks, and so does a start; an end costs as much as tasks name the one that ends. The memory for
-//! the two events of a task and for its value is taken by its add.
+//! Whether a task may start is looked up where it starts, by one look at each task that it names. `Links` only says
+//! when a start is tried: it counts how many tasks each one waits for, and has a stack of those that are ready. An add
+//! costs as much as it names tasks, and so does a start; an end costs as much as tasks name the one that ends. The
+//! memory for the two events of a task and for its value is taken by its add.
 //!
 //! # Tickets
 //!
-//! What is outstanding is in a book of `tickets` under the lock: each open start, and each caller's pass. Whoever comes
-//! back with the ticket of a start learns that the start is still open, and that its task's work and inputs are what it
-//! took along. Whoever comes back with the ticket of a pass learns that what the pass has seen is a prefix of the rows,
-//! and that it has seen all rows of its caller.
+//! What is outstanding is in a book of `tickets` under the lock: each open start, each caller's pass, and each end that
+//! was recorded. Whoever comes back with the ticket of a start learns that the start is still open, and that its task's
+//! work and inputs are what it took along. Whoever comes back with the ticket of a pass learns that what the pass has
+//! seen is a prefix of the rows, and that it has seen all rows of its caller. A seat has the ticket of the end of the
+//! task that it ran last, and takes it back where the next one ends: so it learns that the next end comes later.
 //!
 //! # The book, its callers and its workers
 //!
-//! An `AsyncBook` has the state in a `KeyedLock` and a list of ready tasks of `ready_deques`. `add` takes the lock with a
-//! caller's `Pass`: it looks into the book, so that the pass has seen all of its rows, and adds the task. A worker's
+//! An `AsyncBook` has the state in a `KeyedLock` and a list of ready tasks of `ready_deques`. `add` takes the lock with
+//! a caller's `Pass`: it looks into the book, so that the pass has seen all of its rows, and adds the task. A worker's
 //! `AsyncSeat` takes a ready task in `step`: it starts it under the lock, does its work without the lock, and ends it
-//! under the lock. What becomes ready by that is put into the worker's deque at once. Where memory for that is refused
-//! the task stays on the stack of the state, and a later step queues it.
+//! under the lock. It names the task whose end it was given there. What becomes ready by that is put into the worker's
+//! deque at once. Where memory for that is refused the task stays on the stack of the state, and a later step queues it.
 //!
 //! `finish` gives the run where each task ended. Since a pass has seen all rows of its caller, and is given back there,
 //! the rows of each caller are just those that its pass has kept.
@@ -48,6 +49,7 @@ mod outstanding;
 mod parts;
 mod pass;
 mod ready_task;
+mod recorded_end;
 mod run;
 mod seat;
 mod stage;
@@ -62,6 +64,7 @@ pub use opening::Opening;
 pub use outstanding::Outstanding;
 pub use parts::{AsyncParts, MAX_CALLERS};
 pub use pass::Pass;
+pub use recorded_end::RecordedEnd;
 pub use run::AsyncRun;
 pub use seat::{AsyncSeat, AsyncStep};
 pub use stage::Stage;

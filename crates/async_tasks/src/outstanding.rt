@@ -18,4 +18,9 @@ pub enum Outstanding<W, V> {
         work: Snapshot<Arc<W>>,
         ins: Snapshot<List<Arc<V>>>,
     },
+    /// An end that was recorded: its task, and its index among the events.
+    Recorded {
+        task: u32,
+        place: u64,
+    },
 }

@@ -4,7 +4,7 @@ ghost use Rattle.std.specs.Arc.{arc_value};
 ghost use Rattle.ready_deques.specs.Limits.{max_workers};
 ghost use Rattle.ready_deques.specs.Lists.{IsOwnerOf, tag_of};
 ghost use Rattle.async_tasks.specs.Books.{key_of, book_key};
-ghost use Rattle.async_tasks.specs.AsyncBooks.{ArePassesOf, AreFirstPasses, IsSeatOf, async_book_state, caller_limit, counts_of};
+ghost use Rattle.async_tasks.specs.AsyncBooks.{ArePassesOf, AreFirstPasses, IsSeatOf, IsNewSeatOf, async_book_state, caller_limit, counts_of};
 
 use crate::book::AsyncBook;
 use crate::opening::Opening;
@@ -29,7 +29,7 @@ pub const MAX_CALLERS: u32 = 64;
 #[derive(Drop)]
 pub struct AsyncParts<W: AsyncWork> {
     pub book: AsyncBook<W>,
-    pub seats: Vec<AsyncSeat>,
+    pub seats: Vec<AsyncSeat<W>>,
     pub passes: Vec<Pass<W>>,
 }
 
@@ -88,20 +88,24 @@ fn open_passes<W: AsyncWork>(
 }
 
 // A seat for each owner of a list.
-fn seats_of(
+fn seats_of<W: AsyncWork>(
     alloc: Global,
     ready: &Arc<Ready<ReadyTask>>,
     mut owners: Vec<Owner<ReadyTask>>,
-) -> Result<Vec<AsyncSeat>, NoMemory>
+) -> Result<Vec<AsyncSeat<W>>, NoMemory>
     requires { All (IsOwnerOf (arc_value ready.now)) owners.items }
     ensures seats { IfOk result
-        (λ seats. All (IsOwnerOf (arc_value ready.now)) seats.items) }
+        (λ seats. All (IsNewSeatOf (arc_value ready.now)) seats.items) }
     ensures count { IfOk result (λ seats. length seats.items ≡ length owners.items) }
 {
     let _ = ready;
     let mut seats = Vec::new(alloc);
     while let Some(owner) = owners.pop() {
-        seats.push(AsyncSeat { alloc, owner })?;
+        seats.push(AsyncSeat {
+            alloc,
+            owner,
+            last: None,
+        })?;
     }
     Ok(seats)
 }

@@ -1,10 +1,12 @@
 // Workers' seats.
-ghost use Rattle.std.specs.Prelude.{◌≡◌, ◌<◌, IfOk};
-ghost use Rattle.async_tasks.specs.AsyncBooks.{IsSeatOf};
-ghost use Rattle.async_tasks.specs.declared.seat.AsyncStep.TheVariants.{Empty};
+ghost use Rattle.std.specs.Prelude.{◌≡◌, IfOk, OnErr};
+ghost use Rattle.async_tasks.specs.Starts.{IsAfter};
+ghost use Rattle.async_tasks.specs.AsyncBooks.{IsSeatOf, HasStepped, HasRun};
+ghost use Rattle.async_tasks.specs.declared.seat.AsyncStep.TheVariants.{Ran, Empty};
 
 use crate::book::AsyncBook;
 use crate::ready_task::ReadyTask;
+use crate::recorded_end::RecordedEnd;
 use crate::started::Started;
 use crate::work::AsyncWork;
 use outside_io::NoMemory;
@@ -22,35 +24,34 @@ pub enum AsyncStep {
     Empty,
 }
 
-/// A worker's seat at a book of tasks.
+/// A worker's seat at a book of tasks. It has the end of the task that it ran last.
 #[derive(Drop)]
-pub struct AsyncSeat {
+pub struct AsyncSeat<W: AsyncWork> {
     pub(crate) alloc: Global,
     pub(crate) owner: Owner<ReadyTask>,
+    pub(crate) last: Option<RecordedEnd<W>>,
 }
 
-impl Model for AsyncSeat {
-    ghost use Rattle.ready_deques.specs.Lists.{OwnerState};
+impl<W: AsyncWork> Model for AsyncSeat<W> {
+    ghost use Rattle.async_tasks.specs.AsyncBooks.{SeatState, seat_state};
 
-    ghost Value = { OwnerState };
+    ghost Value = { SeatState };
 
-    ghost view = { λ seat. seat.owner };
+    ghost view = { λ seat. seat_state seat.owner seat.last };
 }
 
-impl AsyncSeat {
+impl<W: AsyncWork> AsyncSeat<W> {
     /// Takes a ready task through its start, its work and its end. It may wait, and no lock is held while the work is
     /// done. Each task that becomes ready by the end is queued at once.
     ///
-    /// `Empty` only where the seat's list was found empty in this call. After an `Err` a task may be started and have
-    /// no end for good; its work is at its number.
-    pub fn step<W: AsyncWork, R: Wait>(
-        &mut self,
-        rt: &R,
-        book: &AsyncBook<W>,
-    ) -> Result<AsyncStep, NoMemory>
+    /// `Ran` names the task whose end the seat was given in this call: the book recorded it after the end that the seat
+    /// had before. `Empty` only where the seat's list was found empty in this call. After an `Err` a task may be
+    /// started and have no end for good; its work is at its number.
+    pub fn step<R: Wait>(&mut self, rt: &R, book: &AsyncBook<W>) -> Result<AsyncStep, NoMemory>
         requires { IsSeatOf book.now self.old }
         ensures same { IsSeatOf book.now self.new }
-        ensures empty { IfOk result (λ step. step ≡ Empty → self.old.zeros < self.new.zeros) }
+        ensures stepped { IfOk result (λ step. HasStepped book.now self.old step self.new) }
+        ensures err { OnErr result (self.new.last ≡ self.old.last) }
     {
         for _ in rt.forever() {
             let Some(item) = self.owner.take(rt) else {
@@ -72,7 +73,7 @@ impl AsyncSeat {
     }
 
     // Does the work of a start and ends it.
-    fn carry_out<W: AsyncWork, R: Wait>(
+    fn carry_out<R: Wait>(
         &mut self,
         rt: &R,
         book: &AsyncBook<W>,
@@ -80,13 +81,17 @@ impl AsyncSeat {
     ) -> Result<AsyncStep, NoMemory>
         requires seat { IsSeatOf book.now self.old }
         requires started { started.register ≡ book.now.register }
-        ensures same { self.new ≡ self.old }
-        ensures ran { IfOk result (λ step. step ≡ Empty → ⊥) }
+        ensures owner { self.new.owner ≡ self.old.owner }
+        ensures ran { IfOk result (λ step. (step ≡ Ran started.task)
+            × HasRun book.now self.old started.task self.new) }
+        ensures err { OnErr result (self.new.last ≡ self.old.last) }
     {
         let task = started.task;
         let value = started.work.run(self.alloc, &started.ins)?;
         let value = Arc::new(self.alloc, value)?;
-        book.end(rt, &mut self.owner, started, value);
+        let last = self.last.take();
+        let end = book.end(rt, &mut self.owner, started, value, last);
+        self.last = Some(end);
         Ok(AsyncStep::Ran(task))
     }
 }

@@ -7,11 +7,12 @@ ghost use Rattle.async_tasks.specs.declared.history.AddRow.{AddRow};
 ghost use Rattle.async_tasks.specs.Histories.{kept_of, IsHistory};
 ghost use Rattle.async_tasks.specs.Passes.{seen, IsTicketOf, HasLooked};
 ghost use Rattle.async_tasks.specs.Runs.{IsAsyncRun};
-ghost use Rattle.async_tasks.specs.inside.Keeps.{HasRoom};
+ghost use Rattle.async_tasks.specs.inside.Keeps.{HasEventRoom};
 ghost use Rattle.async_tasks.specs.inside.Ready.{is_over};
-ghost use Rattle.async_tasks.specs.Starts.{IsPassFor, rows_seen, HasSeen, IsFreshPass};
+ghost use Rattle.async_tasks.specs.Starts.{IsPassFor, rows_seen, HasSeen, IsFreshPass, end_record, IsAfter};
 ghost use Rattle.async_tasks.specs.Books.{caller_of, book_key, key_of, NothingOut};
 ghost use Rattle.async_tasks.specs.declared.stage.Stage.TheVariants.{Waiting};
+ghost use Rattle.async_tasks.specs.declared.history.TaskEvent.TheVariants.{Ended};
 
 use crate::history::{AddRow, TaskEvent};
 use crate::inputs::{first_open, inputs, is_ready};
@@ -19,6 +20,7 @@ use crate::links::Links;
 use crate::opening::Opening;
 use crate::outstanding::Outstanding;
 use crate::pass::Pass;
+use crate::recorded_end::RecordedEnd;
 use crate::run::AsyncRun;
 use crate::stage::Stage;
 use crate::started::Started;
@@ -69,7 +71,7 @@ impl<W: AsyncWork> Model for BookState<W> {
     ghost use Rattle.async_tasks.specs.Histories.{kept_of};
     ghost use Rattle.async_tasks.specs.Starts.{IsPassFor, rows_seen, HasSeen, IsFreshPass};
     ghost use Rattle.async_tasks.specs.Books.{BookHistory, book_history};
-    ghost use Rattle.async_tasks.specs.inside.Keeps.{KeepsBook, HasRoom};
+    ghost use Rattle.async_tasks.specs.inside.Keeps.{KeepsBook, HasEventRoom};
 
     ghost Value = { BookHistory W W.V };
 
@@ -78,7 +80,7 @@ impl<W: AsyncWork> Model for BookState<W> {
 
     ghost invariant = { λ s. KeepsBook W.answers (book_history s.book.register s.callers s.rows.items
         s.events.items (map arc_value s.works.items) s.stages.items s.book.items)
-        × HasRoom (length s.rows.items) (vec_capacity s.events) };
+        × HasEventRoom (length s.rows.items) (vec_capacity s.events) };
 }
 
 impl<W: AsyncWork> Keyed for BookState<W> {
@@ -133,8 +135,8 @@ impl<W: AsyncWork> BookState<W> {
 
 impl<W: AsyncWork> BookState<W> {
     /// Starts a task. `None` exactly where it may not start: it isn't there, was started, or names a task that has no
-    /// end. The memory for its event was taken by its add: after an `Err` there was none for the list of its inputs, and
-    /// the book is as it was.
+    /// end. The memory for its event was taken by its add: an `Err` is returned where there is none for the list of its
+    /// inputs, or where the work or an input has as many owners as can be counted. The book is then as it was.
     pub fn start_in(
         &mut self,
         register: &Register<Outstanding<W, W::V>>,
@@ -169,24 +171,84 @@ impl<W: AsyncWork> BookState<W> {
         }))
     }
 
-    /// Ends a start with a value. It takes no memory.
+    /// Ends a start with a value, and gives the end as it is recorded. It takes no memory.
     pub fn end_in(
         &mut self,
         register: &Register<Outstanding<W, W::V>>,
         started: Started<W>,
         value: Arc<W::V>,
-    )
+    ) -> RecordedEnd<W>
         requires register { self.old.register ≡ register.now }
         requires started { started.register ≡ register.now }
         requires answered { W.answers started.work started.ins (arc_value value) }
         ensures key { key_of self.new ≡ key_of self.old }
         ensures ended { EndsTask self.old started value self.new }
+        ensures recorded { result
+            ≡ end_record register.now started.task (length self.old.events) }
     {
         let Started { ticket, task, .. } = started;
+        let place = self.events.len() as u64;
         register.redeem(&mut self.book, ticket);
         self.events.push_reserved(TaskEvent::Ended(task));
         set_stage(&mut self.stages, task, Stage::Over(value));
         self.links.end(task);
+        let ticket = register.issue(&mut self.book, Outstanding::Recorded { task, place });
+        RecordedEnd {
+            ticket,
+            task,
+            place,
+        }
+    }
+}
+
+impl<W: AsyncWork> BookState<W> {
+    // Takes an end back, and learns that it is in the history.
+    fn close_end(&mut self, register: &Register<Outstanding<W, W::V>>, end: RecordedEnd<W>)
+        requires register { self.old.register ≡ register.now }
+        requires end { end.register ≡ register.now }
+        ensures book { self.new ≡ with_items self.old self.new.items }
+        ensures was { slice_get self.old.events end.place ≡ Some (Ended end.task) }
+    {
+        register.redeem(&mut self.book, end.ticket);
+    }
+
+    // So with an end, if there is one.
+    fn close_last(
+        &mut self,
+        register: &Register<Outstanding<W, W::V>>,
+        last: Option<RecordedEnd<W>>,
+    )
+        requires register { self.old.register ≡ register.now }
+        requires last { IfSome last (λ end. end.register ≡ register.now) }
+        ensures book { self.new ≡ with_items self.old self.new.items }
+        ensures was { IfSome last
+            (λ end. slice_get self.old.events end.place ≡ Some (Ended end.task)) }
+    {
+        match last {
+            Some(end) => self.close_end(register, end),
+            None => (),
+        }
+    }
+
+    /// Ends a start with a value. The last end that its seat was given is taken back, and comes before this one.
+    #[tactic(auto, using(crate::proofs::Ending::next_is_after))]
+    pub(crate) fn end_after(
+        &mut self,
+        register: &Register<Outstanding<W, W::V>>,
+        started: Started<W>,
+        value: Arc<W::V>,
+        last: Option<RecordedEnd<W>>,
+    ) -> RecordedEnd<W>
+        requires register { self.old.register ≡ register.now }
+        requires started { started.register ≡ register.now }
+        requires answered { W.answers started.work started.ins (arc_value value) }
+        requires last { IfSome last (λ end. end.register ≡ register.now) }
+        ensures key { key_of self.new ≡ key_of self.old }
+        ensures recorded { (result.register ≡ register.now) × (result.task ≡ started.task) }
+        ensures later { IsAfter last result.place }
+    {
+        self.close_last(register, last);
+        self.end_in(register, started, value)
     }
 }
 
@@ -442,7 +504,7 @@ fn make_room<A, B, C>(
 fn make_event_room(events: &mut Vec<TaskEvent>, tasks: u32) -> Result<(), NoMemory>
     ensures same { events.new.items ≡ events.old.items }
     ensures more { vec_capacity events.old ≤ vec_capacity events.new }
-    ensures room { OnOk result (HasRoom tasks (vec_capacity events.new)) }
+    ensures room { OnOk result (HasEventRoom tasks (vec_capacity events.new)) }
 {
     let wanted = 2 * tasks as usize;
     events.reserve(wanted.saturating_sub(events.len()))?;

@@ -1,3 +1,4 @@
 pub mod WorkedHistories
 pub mod WorkedAsyncBooks
 pub mod WorkedAsyncPasses
+pub mod WorkedRunJournals

@@ -10,19 +10,20 @@ use Rattle.atomic_table.specs.Seated.{TableId}
 use Rattle.tickets.specs.Books.{ticket_state}
 use Rattle.ready_deques.specs.declared.ready.Ready.{Ready}
 use Rattle.ready_deques.specs.declared.tagged.Tagged.{Ghosts}
-use Rattle.ready_deques.specs.Lists.{OwnerState}
+use Rattle.ready_deques.specs.Lists.{OwnerState, IsOwnerOf}
 use Rattle.async_tasks.specs.declared.history.AddRow.{AddRow}
 use Rattle.async_tasks.specs.declared.history.TaskEvent.TheVariants.{Started, Ended}
 use Rattle.async_tasks.specs.declared.stage.Stage.TheVariants.{Open, Over}
 use Rattle.async_tasks.specs.declared.run.AsyncRun.{AsyncRun}
 use Rattle.async_tasks.specs.declared.finish.Finished.TheVariants.{Done, Open as Unfinished}
 use Rattle.async_tasks.specs.declared.outstanding.Outstanding.{Outstanding}
-use Rattle.async_tasks.specs.declared.outstanding.Outstanding.TheVariants.{Pass, Running}
+use Rattle.async_tasks.specs.declared.outstanding.Outstanding.TheVariants.{Pass, Running, Recorded}
+use Rattle.async_tasks.specs.declared.seat.AsyncStep.TheVariants.{Ran, Empty}
 use Rattle.async_tasks.specs.Histories.{times_started, times_ended, kept_of, found}
-use Rattle.async_tasks.specs.Books.{BookHistory, BookKey, book_history, value_at, holder_of, caller_of, task_of, NothingOut}
-use Rattle.async_tasks.specs.Starts.{IsTicketFor, IsPassFor, rows_seen, HasSeen, IsFreshPass}
+use Rattle.async_tasks.specs.Books.{BookHistory, BookKey, book_history, value_at, holder_of, caller_of, task_of, end_at, NothingOut}
+use Rattle.async_tasks.specs.Starts.{IsTicketFor, IsPassFor, rows_seen, HasSeen, IsFreshPass, EndRecord, end_record, IsEndAt, IsAfter}
 use Rattle.async_tasks.specs.Passes.{PassState, pass_state, IsHeld, IsTicketOf, rows_in, number_in, seen, looked, kept, LooksAgain, HasLooked, HaveLooked}
-use Rattle.async_tasks.specs.AsyncBooks.{AsyncBookState, async_book_state, counts_of, IsPassOf, HasAdded, IsSeatOf, ArePassesOf, AreFirstPasses, caller_limit, IsOwnerAt}
+use Rattle.async_tasks.specs.AsyncBooks.{AsyncBookState, async_book_state, counts_of, IsPassOf, HasAdded, SeatState, seat_state, IsSeatOf, IsNewSeatOf, HasRun, HasStepped, ArePassesOf, AreFirstPasses, caller_limit, IsOwnerAt}
 use Rattle.async_tasks.specs.Runs.{IsAsyncRun}
 use Rattle.async_tasks.specs.Finishes.{IsDone, IsOpenAt, HaveSeen, HaveTickets, IsFinished}
 use Rattle.library_claims.proofs.WorkedHistories.{add}
@@ -138,15 +139,53 @@ module _ (r s : TableId) (other : s ≢ r) (fewer more : Snapshot (Vec AddRow Gl
   at_another_place : ¬ ArePassesOf book (old ∷ old ∷ []) × ¬ AreFirstPasses r (old ∷ [])
   at_another_place = ((λ h. absurd (omega (arith, (h.each 0 old refl).1))), (λ h. absurd (omega (arith, (h 0 old refl).1))))
 
-  -- a seat is of the book's list
-  seats : (owner : OwnerState) → owner.tag ≡ [] → owner.counts ≡ s → IsSeatOf book owner × IsOwnerAt s owner
-  seats owner tag counts = ((tag, counts), (tag, counts))
+  -- a seat is of the book's list, and the book recorded its last end
+  seats : (owner : OwnerState) → owner.tag ≡ [] → owner.counts ≡ s → IsSeatOf book (seat_state owner None) × IsSeatOf book (seat_state owner (Some (end_record r 4 9))) × IsOwnerAt s owner
+  seats owner tag counts = (record { owner = (tag, counts); last = tt }, record { owner = (tag, counts); last = refl }, (tag, counts))
 
-  seat_of_another_list : (owner : OwnerState) → owner.counts ≡ r → ¬ IsSeatOf book owner × ¬ IsOwnerAt s owner
-  seat_of_another_list owner counts = ((λ h. other (sym h.1 ∙ counts)), (λ h. other (sym h.1 ∙ counts)))
+  seat_of_another_list : (owner : OwnerState) → owner.counts ≡ r → ¬ IsSeatOf book (seat_state owner None) × ¬ IsOwnerAt s owner
+  seat_of_another_list owner counts = ((λ h. other (sym h.owner.1 ∙ counts)), (λ h. other (sym h.1 ∙ counts)))
 
-  seat_of_a_tagged_list : (owner : OwnerState) → owner.tag ≡ 7 ∷ [] → ¬ IsSeatOf book owner × ¬ IsOwnerAt s owner
-  seat_of_a_tagged_list owner tag = ((λ h. let e = sym tag ∙ h.0 in absurd (cc)), (λ h. let e = sym tag ∙ h.0 in absurd (cc)))
+  seat_of_a_tagged_list : (owner : OwnerState) → owner.tag ≡ 7 ∷ [] → ¬ IsSeatOf book (seat_state owner None) × ¬ IsOwnerAt s owner
+  seat_of_a_tagged_list owner tag = ((λ h. let e = sym tag ∙ h.owner.0 in absurd (cc)), (λ h. let e = sym tag ∙ h.0 in absurd (cc)))
+
+  seat_with_another_end : (owner : OwnerState) → ¬ IsSeatOf book (seat_state owner (Some (end_record s 4 9)))
+  seat_with_another_end owner h = other h.last
+
+  -- a step names the task whose end the seat was given, which comes after the end that it had
+  abbrev ran_4 : OwnerState → SeatState
+  ran_4 owner = seat_state owner (Some (end_record r 4 9))
+
+  ran : (owner : OwnerState) → HasStepped book (seat_state owner None) (Ran 4) (ran_4 owner) × HasStepped book (ran_4 owner) (Ran 5) (seat_state owner (Some (end_record r 5 12)))
+  ran owner = ((refl, refl, tt), (refl, refl, omega arith))
+
+  ran_without_an_end : (owner : OwnerState) → ¬ HasStepped book (seat_state owner None) (Ran 4) (seat_state owner None)
+  ran_without_an_end owner h = h
+
+  ran_another : (owner : OwnerState) → ¬ HasRun book (seat_state owner None) 5 (ran_4 owner)
+  ran_another owner h = absurd (omega (arith, h.1))
+
+  ran_before : (owner : OwnerState) → ¬ HasRun book (ran_4 owner) 4 (ran_4 owner) × ¬ HasRun book (ran_4 owner) 5 (seat_state owner (Some (end_record r 5 8)))
+  ran_before owner = ((λ h. let e = h.2 in absurd (omega arith)), (λ h. let e = h.2 in absurd (omega arith)))
+
+  ran_elsewhere : (owner : OwnerState) → ¬ HasRun book (seat_state owner None) 4 (seat_state owner (Some (end_record s 4 9)))
+  ran_elsewhere owner h = other h.0
+
+  found_empty : (owner later : OwnerState) → owner.zeros ≡ 3 → later.zeros ≡ 4 → HasStepped book (ran_4 owner) Empty (ran_4 later) × ¬ HasStepped book (ran_4 owner) Empty (seat_state later None)
+  found_empty owner later before after = ((omega (arith, before, after), refl), (λ h. let e = h.1 in absurd (cc)))
+
+  found_nothing : (owner : OwnerState) → ¬ HasStepped book (ran_4 owner) Empty (ran_4 owner)
+  found_nothing owner h = let e = h.0 in absurd (omega arith)
+
+  -- a ticket of an end is for its task and its index
+  ticket_of_an_end : IsEndAt {W = ℕ} {V = ℕ} 4 9 (Recorded 4 9) × ¬ IsEndAt {W = ℕ} {V = ℕ} 5 9 (Recorded 4 9) × ¬ IsEndAt {W = ℕ} {V = ℕ} 4 8 (Recorded 4 9) × ¬ IsEndAt 4 9 pass × ¬ IsEndAt 4 9 (Running 4 work values)
+  ticket_of_an_end = ((refl, refl), (λ h. absurd (omega (arith, h.0))), (λ h. absurd (omega (arith, h.1))), (λ h. h), (λ h. h))
+
+  no_other_ticket : ¬ IsPassFor {W = ℕ} {V = ℕ} 4 (Recorded 4 9) × ¬ IsTicketFor {W = ℕ} {V = ℕ} 4 5 [] (Recorded 4 9) × (rows_seen {W = ℕ} {V = ℕ} (Recorded 4 9) ≡ []) × (holder_of {W = ℕ} {V = ℕ} (Recorded 4 9) ≡ end_at 9)
+  no_other_ticket = ((λ h. h), (λ h. h), refl, refl)
+
+  after_ends : IsAfter None 0 × IsAfter (Some (end_record r 4 9)) 10 × ¬ IsAfter (Some (end_record r 4 9)) 9
+  after_ends = (tt, omega arith, (λ h. absurd (omega arith)))
 
   -- a ticket of a start is for its task, its work and what it found
   ticket_of_a_start : IsTicketFor 4 5 (6 ∷ []) (Running 4 work values) × ¬ IsTicketFor 4 5 (6 ∷ []) pass × ¬ IsPassFor 4 (Running 4 work values) × (rows_seen (Running 4 work values) ≡ []) × (holder_of (Running 4 work values) ≡ task_of 4)
@@ -292,3 +331,7 @@ module _ (answers : ℕ → List ℕ → ℕ → Type 0) (work a : Arc ℕ Globa
 -- the table of the count word of a list
 counts_of_a_list : {G : Ghosts ℕ} (ready : Ready ℕ G) (r : TableId) → ready.counter.table.shared.table_id ≡ r → counts_of ready ≡ r
 counts_of_a_list ready r same = same
+
+-- a new seat has an owner of the list, and ran nothing
+new_seats : {G : Ghosts ℕ} (ready : Ready ℕ G) (owner : OwnerState) (last : EndRecord) → IsOwnerOf ready owner → IsNewSeatOf ready (seat_state owner None) × ¬ IsNewSeatOf ready (seat_state owner (Some last))
+new_seats ready owner last own = ((own, refl), (λ h. let e = h.1 in absurd (cc)))

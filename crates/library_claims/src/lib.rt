@@ -5,5 +5,6 @@
 //!
 //! - `WorkedHistories`: which histories of async tasks are right, each wrong one breaking one line of the definitions;
 //! - `WorkedAsyncBooks`: what an add, a start and an end of a book of tasks change, what may be started, and what is refused;
-//! - `WorkedAsyncPasses`: what passes, seats and tickets of such books say, and what finishing one comes to.
+//! - `WorkedAsyncPasses`: what passes, seats and tickets of such books say, and what finishing one comes to;
+//! - `WorkedRunJournals`: the net and the journal of a run of such tasks, and which journals are whole.
 #![tactic(auto)]

@@ -28,11 +28,11 @@ pass_crosses = pass_send add_to.the_row (field.u64-field).row work.ghosts work_s
 book_shared : IsSync (async_book.the_row add_to.the_row (field.u64-field).row work.ghosts)
 book_shared = book_sync add_to.the_row (field.u64-field).row work.ghosts work_send work_sync (search sendable) (search sendable)
 
-pub seat_crosses : IsSend seat.the_row
-seat_crosses = seat_send
+pub seat_crosses : IsSend (seat.the_row add_to.the_row (field.u64-field).row work.ghosts)
+seat_crosses = seat_send add_to.the_row (field.u64-field).row work.ghosts work_send work_sync (search sendable) (search sendable)
 
 pub crowd_shared : IsSync crowd.the_row
 crowd_shared = search (book_shared, fields) depth 60 fits 20000
 
 pub side_crosses : IsSend side.the_row
-side_crosses = search (pass_crosses, seat_send, fields) depth 60 fits 20000
+side_crosses = search (pass_crosses, seat_crosses, fields) depth 60 fits 20000

@@ -4,10 +4,11 @@ use outside_io::{List, NoMemory};
 use std::alloc::{AllocFailed, Global};
 use std::sync::Arc;
 
-/// A number to which the inputs are added.
+/// A number to which the inputs are added. The sum is then turned so many times, which takes a while.
 #[derive(Drop)]
 pub struct AddTo {
     pub number: u64,
+    pub turns: u32,
 }
 
 impl AsyncWork for AddTo {
@@ -20,8 +21,19 @@ impl AsyncWork for AddTo {
         for input in ins {
             sum = sum.wrapping_add(**input);
         }
-        Ok(sum)
+        Ok(turned(sum, self.turns))
     }
+}
+
+// A number that is turned so many times.
+fn turned(number: u64, turns: u32) -> u64 {
+    let mut turned = number;
+    for _ in 0..turns {
+        turned = turned
+            .wrapping_mul(6_364_136_223_846_793_005)
+            .wrapping_add(1);
+    }
+    turned
 }
 
 /// Why a number was not added.

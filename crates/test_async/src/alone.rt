@@ -21,9 +21,9 @@ pub enum Outcome {
 pub struct Alone {
     book: AsyncBook<AddTo>,
     pass: Pass<AddTo>,
-    seat: AsyncSeat,
+    seat: AsyncSeat<AddTo>,
     ghost pass_of: { IsPassOf book pass } by { Prim.hlevel props },
-    ghost seat_of: { IsSeatOf book seat },
+    ghost seat_of: { IsSeatOf book seat } by { Prim.hlevel props },
     ghost one_caller: { (book.callers ≡ 1) × (pass.caller ≡ 0) },
 }
 
@@ -59,7 +59,7 @@ impl Alone {
     ) -> Result<u32, Refused>
         requires { length after.now ≤ 64 }
     {
-        let work = Arc::new(alloc, AddTo { number })?;
+        let work = Arc::new(alloc, AddTo { number, turns: 0 })?;
         Ok(self.book.add(rt, &mut self.pass, work, after)?)
     }
 

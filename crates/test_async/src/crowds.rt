@@ -11,13 +11,24 @@ use std::sync::atomic::{AtomicBool, AtomicU64};
 use std::sync::{Arc, Wait};
 use std::thread::{Threads, for_each_mut, yield_now};
 
-/// A book, how many tasks each caller is to add, how many are to be run, how many were, and whether an add or a step
-/// failed, so that no thread waits for it.
+// How many callers or workers of a crowd have a thread.
+const MOST_THREADS: usize = 4;
+
+/// What each caller adds: so many tasks, each with so many turns, and each after the caller's last one or after nothing.
+#[derive(Clone, Copy)]
+pub struct Adds {
+    pub count: u32,
+    pub turns: u32,
+    pub chained: bool,
+}
+
+/// A book, what each caller is to add, how many tasks are to be run, how many were, and whether an add or a step failed,
+/// so that no thread waits for it.
 #[derive(Drop)]
 pub struct Crowd {
     pub book: AsyncBook<AddTo>,
     alloc: Global,
-    each: u32,
+    adds: Adds,
     wanted: u64,
     ran: AtomicU64,
     failed: AtomicBool,
@@ -27,19 +38,19 @@ pub struct Crowd {
 #[derive(Drop)]
 pub enum Side {
     Callers(Vec<Pass<AddTo>>),
-    Workers(Vec<AsyncSeat>),
+    Workers(Vec<AsyncSeat<AddTo>>),
 }
 
 impl Crowd {
-    /// Of so many callers, each of which is to add so many tasks.
-    pub fn new(alloc: Global, book: AsyncBook<AddTo>, callers: u32, each: u32) -> Crowd
+    /// Of so many callers.
+    pub fn new(alloc: Global, book: AsyncBook<AddTo>, callers: u32, adds: Adds) -> Crowd
         ensures { result.book ≡ book }
     {
         Crowd {
             book,
             alloc,
-            each,
-            wanted: callers as u64 * each as u64,
+            adds,
+            wanted: callers as u64 * adds.count as u64,
             ran: AtomicU64::new(0),
             failed: AtomicBool::new(false),
         }
@@ -60,23 +71,25 @@ impl Crowd {
         ensures same { IsPassOf self.now.book pass.new }
         ensures caller { pass.new.caller ≡ pass.old.caller }
     {
-        let work = Arc::new(self.alloc, AddTo { number: 1 })?;
+        let turns = self.adds.turns;
+        let work = Arc::new(self.alloc, AddTo { number: 1, turns })?;
         match last {
             None => Ok(self.book.add(rt, pass, work, &[])?),
             Some(task) => Ok(self.book.add(rt, pass, work, &[task])?),
         }
     }
 
-    // Adds all tasks of a caller, each after the last one.
-    fn add_chain<R: Wait>(&self, rt: &R, pass: &mut Pass<AddTo>)
+    // Adds all tasks of a caller.
+    fn add_all<R: Wait>(&self, rt: &R, pass: &mut Pass<AddTo>)
         requires { IsPassOf self.now.book pass.old }
         ensures same { IsPassOf self.now.book pass.new }
         ensures caller { pass.new.caller ≡ pass.old.caller }
     {
         let mut last = None;
-        for _ in 0..self.each {
+        for _ in 0..self.adds.count {
             match self.add_next(rt, pass, last) {
-                Ok(task) => last = Some(task),
+                Ok(task) if self.adds.chained => last = Some(task),
+                Ok(_) => (),
                 Err(_) => {
                     self.failed.store(true, SeqCst);
                     return;
@@ -86,7 +99,7 @@ impl Crowd {
     }
 
     // Steps until each task was run.
-    fn step_all<R: Wait>(&self, rt: &R, seat: &mut AsyncSeat)
+    fn step_all<R: Wait>(&self, rt: &R, seat: &mut AsyncSeat<AddTo>)
         requires { IsSeatOf self.now.book seat.old }
         ensures { IsSeatOf self.now.book seat.new }
     {
@@ -106,33 +119,37 @@ impl Crowd {
     }
 }
 
-// All callers add, each by a thread.
-fn add_together<R: Threads + Wait + Sync>(rt: &R, crowd: &Crowd, passes: &mut [Pass<AddTo>])
+/// All callers add, each by a thread.
+pub fn add_together<R: Threads + Wait + Sync>(rt: &R, crowd: &Crowd, passes: &mut [Pass<AddTo>])
     requires { ArePassesOf crowd.now.book passes.old }
     ensures { ArePassesOf crowd.now.book passes.new }
 {
     for_each_mut(
         rt,
         passes,
-        2,
+        MOST_THREADS,
         &|_, pass: &mut Pass<AddTo>|
             requires { IsPassOf crowd.now.book pass.old }
             ensures { IsPassOf crowd.entry.now.book pass.new
                 × (pass.new.caller ≡ pass.old.caller) }
-        { crowd.add_chain(rt, pass) },
+        { crowd.add_all(rt, pass) },
     );
 }
 
-// All workers step, each by a thread.
-fn step_together<R: Threads + Wait + Sync>(rt: &R, crowd: &Crowd, seats: &mut [AsyncSeat])
+/// All workers step until each task was run, each by a thread.
+pub fn step_together<R: Threads + Wait + Sync>(
+    rt: &R,
+    crowd: &Crowd,
+    seats: &mut [AsyncSeat<AddTo>],
+)
     requires { All (IsSeatOf crowd.now.book) seats.old }
     ensures { All (IsSeatOf crowd.now.book) seats.new }
 {
     for_each_mut(
         rt,
         seats,
-        2,
-        &|_, seat: &mut AsyncSeat|
+        MOST_THREADS,
+        &|_, seat: &mut AsyncSeat<AddTo>|
             requires { IsSeatOf crowd.now.book seat.old }
             ensures { IsSeatOf crowd.entry.now.book seat.new }
         { crowd.step_all(rt, seat) },
@@ -149,8 +166,7 @@ fn work<R: Threads + Wait + Sync>(rt: &R, crowd: &Crowd, side: &mut Side)
     }
 }
 
-/// Has each caller add its tasks, each after the caller's last one, and each worker step until all were run, each by a
-/// thread of its own.
+/// Has each caller add its tasks, and each worker step until all were run, each by a thread of its own.
 pub fn work_together<R: Threads + Wait + Sync>(rt: &R, crowd: &Crowd, sides: &mut [Side])
     requires { All (IsSideOf crowd.now.book) sides.old }
     ensures { All (IsSideOf crowd.now.book) sides.new }

@@ -4,6 +4,7 @@
 mod add_to;
 #[cfg(test)]
 mod alone;
+mod crowd_runs;
 mod crowds;
 #[cfg(test)]
 mod judged;
@@ -15,4 +16,5 @@ mod sums;
 mod two_callers;
 
 pub use add_to::{AddTo, Refused};
-pub use crowds::{Crowd, Side, work_together};
+pub use crowd_runs::run_of_two_callers;
+pub use crowds::{Adds, Crowd, Side, add_together, step_together, work_together};

@@ -3,8 +3,9 @@ use Rattle.std.specs.Prelude.{◌≡◌, ℕ, ◌+◌, ◌*◌, ◌≤◌, List,
 use Rattle.std.specs.Arc.{arc_value}
 use Rattle.async_tasks.specs.declared.history.AddRow.{AddRow}
 use Rattle.async_tasks.specs.declared.history.TaskEvent.{TaskEvent}
+use Rattle.async_tasks.specs.declared.history.TaskEvent.TheVariants.{Ended}
 use Rattle.async_tasks.specs.declared.outstanding.Outstanding.{Outstanding}
-use Rattle.async_tasks.specs.declared.outstanding.Outstanding.TheVariants.{Pass, Running}
+use Rattle.async_tasks.specs.declared.outstanding.Outstanding.TheVariants.{Pass, Running, Recorded}
 use Rattle.async_tasks.specs.declared.stage.Stage.{Stage}
 use Rattle.async_tasks.specs.declared.stage.Stage.TheVariants.{Waiting, Open, Over}
 use Rattle.async_tasks.specs.Histories.{times_started, times_ended, AllEnded, IsHistory, rows_of, found}
@@ -24,7 +25,8 @@ events_left Waiting = 2
 events_left Open = 1
 events_left (Over value) = 0
 
--- What a pass has seen is a prefix of the rows, with all of its caller's. An open start has its task's work, and found the values of the tasks named.
+-- What a pass has seen is a prefix of the rows, with all of its caller's. An open start has its task's work, and found the
+-- values of the tasks named. An end that was recorded is at its index.
 abbrev pub ItemFits : {W V : Type 0} → BookHistory W V → Outstanding W V → Type 0
 ItemFits book (Pass caller seen) =
     ((more : List AddRow) × (book.rows ≡ seen.value.items ++ more))
@@ -33,9 +35,10 @@ ItemFits book (Running task work ins) =
     (slice_get book.stages task ≡ Some Open)
     × (slice_get book.works task ≡ Some (arc_value work.value))
     × IsSomeAnd (slice_get book.rows task) (λ (row : AddRow). map arc_value ins.value ≡ found (value_at book.stages) row.after)
+ItemFits book (Recorded task place) = slice_get book.events place ≡ Some (Ended task)
 
 -- The history is right, each task is as far as it says and has the other events to come, each value is one that the task's
--- work allows on the values of the tasks named, and what is outstanding fits, each caller and each task once.
+-- work allows on the values of the tasks named, and what is outstanding fits, each caller, each task and each end once.
 pub record KeepsBook {W V : Type 0} (answers : W → List V → V → Type 0) (book : BookHistory W V) : Type 0 where
   pub history : IsHistory book.callers book.rows book.events
   pub row_count : length book.rows ≤ task_limit
@@ -49,5 +52,5 @@ pub record KeepsBook {W V : Type 0} (answers : W → List V → V → Type 0) (b
   pub once : (n m : ℕ) (x y : Outstanding W V) → slice_get book.items n ≡ Some (Some x) → slice_get book.items m ≡ Some (Some y) → holder_of x ≡ holder_of y → n ≡ m
 
 -- the memory of the events has room for a start and an end of each task
-abbrev pub HasRoom : ℕ → ℕ → Type 0
-HasRoom tasks capacity = 2 * tasks ≤ capacity
+abbrev pub HasEventRoom : ℕ → ℕ → Type 0
+HasEventRoom tasks capacity = 2 * tasks ≤ capacity

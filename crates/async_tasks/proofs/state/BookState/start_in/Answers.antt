@@ -10,7 +10,7 @@ use Rattle.async_tasks.specs.declared.outstanding.Outstanding.TheVariants.{Runni
 use Rattle.async_tasks.specs.Books.{BookHistory, book_key, value_at}
 use Rattle.async_tasks.specs.Histories.{found}
 use Rattle.async_tasks.specs.Adds.{CanStart}
-use Rattle.async_tasks.specs.inside.Keeps.{HasRoom}
+use Rattle.async_tasks.specs.inside.Keeps.{HasEventRoom}
 use Rattle.async_tasks.proofs.Starting.{started, starts, not_ready, is_ready_of, ready_below, room_to_start, has_inputs, has_work_at, keeps_at}
 use Rattle.async_tasks.proofs.state.BookState.start_in.Goals as goal
 
@@ -59,7 +59,7 @@ invariant_of-self g c =
           (keeps_at g.W.AsyncWork.answers s.book.register c.issue-ticket.new.book.register s.callers s.rows.items s.events.items (map arc_value s.works.items) s.stages.items s.book.items same_table c.self.invariant.0)
           ready has_work has_ins (refl, ap arc_value c.of.ensures, ap (map arc_value) c.of-2.ensures)
           c.push_reserved.ensures.items c.set_stage.ensures (ap (λ (b : BookState (Outstanding W V)). b.items) c.issue-ticket.ensures.book),
-      subst (HasRoom (length s.rows.items)) (sym c.push_reserved.ensures.capacity) c.self.invariant.1,
+      subst (HasEventRoom (length s.rows.items)) (sym c.push_reserved.ensures.capacity) c.self.invariant.1,
     )
 
 pub returns-clause-started : goal.returns-clause-started

@@ -1,7 +1,7 @@
 use Rattle.std.proofs.Common.{arith}
 use Rattle.test_async.specs.Sides.{IsSideOf}
 use Rattle.test_async.proofs.ManyPasses.{all_written}
-use Rattle.test_async.proofs.two_callers.run_of_two_callers.Goals as goal
+use Rattle.test_async.proofs.crowd_runs.run_of_two_callers.Goals as goal
 
 pub finish-requires-after_bounds : goal.finish-requires-after_bounds
 finish-requires-after_bounds g c κs within =
