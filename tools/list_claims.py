@@ -17,7 +17,7 @@ CLAUSE = re.compile(r"ensures ([a-z_0-9]+) \{((?:[^{}]|\{[^{}]*\})*)\}")
 # Crates whose definitions are the claims' own nets and journals, or serve tests alone, and libraries that no clause of
 # flow_main cites: of what these say only their tests compute examples.
 EXAMPLES = ("claims", "library_claims", "library_tour", "test_async", "test_desk", "test_desk_book", "test_grains", "test_jobs")
-LIBRARIES = ("desk_book", "run_desk")
+LIBRARIES = ("run_desk",)
 # The definitions without a claim, by the reason.
 UNCLAIMED = {
     "what a law says of every run, where no run can fail it; the law's proof ties it": (

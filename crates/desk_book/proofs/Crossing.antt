@@ -1,5 +1,5 @@
--- A desk may be shared by threads, and its passes may go to them: of the types that they are made of, one after the other,
--- since a search for all at once gives up.
+-- A desk may be shared by threads, and its passes may go to them: of the types that they are made of, one after the
+-- other, since a search for all at once gives up.
 use denote.RattleType.{RattleType}
 use denote.Param.Send.{IsSend, IsSync, sendable}
 use Rattle.std.proofs.Crossing.{crosses, frees}

@@ -6,12 +6,12 @@ use Rattle.run_frame.specs.Meaning.{Meaning}
 use Rattle.desk_book.specs.declared.entry.Ask.{Ask}
 use Rattle.desk_book.specs.declared.entry.DeskEntry.{DeskEntry}
 use Rattle.desk_book.specs.declared.desk_run.DeskRun.{DeskRun}
-use Rattle.desk_book.specs.Histories.{asks_of}
+use Rattle.desk_book.specs.Histories.{asks_of, IsFirstUnended}
 use Rattle.desk_book.specs.Books.{BookHistory, with_items}
 use Rattle.desk_book.specs.Passes.{PassState, IsTicketOf, AllLooked, HaveSeen}
 use Rattle.desk_book.specs.States.{DeskKey, DeskLocked, key_of, with_book}
 use Rattle.desk_book.specs.Desks.{ArePassesOf, IsPassOf}
-use Rattle.desk_book.specs.Finishes.{IsDeskRun, IsDone, IsUnended, AllSeeUnended}
+use Rattle.desk_book.specs.Finishes.{IsDeskRun, IsDone, AllSeeFirstUnended}
 use Rattle.desk_book.proofs.Lists.{get_in_range, get_there}
 use Rattle.desk_book.proofs.Closing.{kept_all, together}
 
@@ -44,14 +44,14 @@ is_done {J} {V} meaning desk passes state state' run own key same_desk same_book
     }
 
 -- where one has not
-pub is_open : {J : Type 0} (desk : DeskKey J) (passes passes' : List PassState) (register : TableId) (history : List DeskEntry) (n : ℕ) → ArePassesOf desk passes → desk.register ≡ register → AllLooked register history passes passes' → IsUnended history n →
-    ArePassesOf desk passes' × AllSeeUnended n passes passes'
+pub is_open : {J : Type 0} (desk : DeskKey J) (passes passes' : List PassState) (register : TableId) (history : List DeskEntry) (n : ℕ) → ArePassesOf desk passes → desk.register ≡ register → AllLooked register history passes passes' → IsFirstUnended history n →
+    ArePassesOf desk passes' × AllSeeFirstUnended n passes passes'
 is_open desk passes passes' register history n own same all unended = (
   record {
     count = all.count ∙ own.count;
     each = passes_still;
   },
-  λ c before after at_old at_new. ((all.each c before after at_old at_new).looks, subst (λ hs. IsUnended hs n) (sym (all.each c before after at_old at_new).all) unended),
+  λ c before after at_old at_new. ((all.each c before after at_old at_new).looks, subst (λ hs. IsFirstUnended hs n) (sym (all.each c before after at_old at_new).all) unended),
 )
   where
     passes_still : (c : ℕ) (p : PassState) → slice_get passes' c ≡ Some p → IsPassOf desk p × (p.caller ≡ c)

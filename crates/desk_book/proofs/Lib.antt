@@ -11,5 +11,4 @@ mod Seeing
 mod Beginning
 mod Closing
 mod Done
-mod WorkedDesks
 pub mod Crossing

@@ -120,8 +120,8 @@ get_map f (y ∷ ys) (suc n) x at = get_map f ys n x at
 pub holds_at : {X Y : Type 0} (P : Y → Type 0) (f : X → Y) (xs : List X) (n : ℕ) (x : X) → All P (map f xs) → n < length xs → x ≡ get_or xs n x → P (f x)
 holds_at P f xs n x all below is = all_at P (map f xs) n (f x) (get_map f xs n x (slice_get_read xs (length xs) n x refl below is)) (recursion_from_All P (map f xs) all)
 
--- how many rounds are kept, after those of one ask have come
-pub rounds_set : {X : Type 0} (runs : List (List X)) (n : ℕ) (new : List X) → map (λ (rs : List X). length rs) (set runs n new) ≡ set (map (λ (rs : List X). length rs) runs) n (length new)
-rounds_set [] n new = refl
-rounds_set (rs ∷ runs) zero new = refl
-rounds_set (rs ∷ runs) (suc n) new = ap (λ ns. length rs ∷ ns) (rounds_set runs n new)
+-- what is kept of the rounds, after those of one ask have come
+pub map_set : {X Y : Type 0} (f : X → Y) (xs : List X) (n : ℕ) (x : X) → map f (set xs n x) ≡ set (map f xs) n (f x)
+map_set f [] n x = refl
+map_set f (y ∷ ys) zero x = refl
+map_set f (y ∷ ys) (suc n) x = ap (λ zs. f y ∷ zs) (map_set f ys n x)

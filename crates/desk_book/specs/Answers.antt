@@ -25,8 +25,8 @@ pub record HasEnded (history : List DeskEntry) (taken : OpenAsk) (whole : Bool) 
   pub was_open : turn_of before taken.ask.number ≡ Open
   pub ask : slice_get (asks_of before) taken.ask.number ≡ Some taken.ask
 
--- What taking an ask of a desk with so many graphs comes to where this was seen before and this history now: the first ask that may be taken is; or asks wait, of which this is
--- the oldest, and each is passed over; or none waits.
+-- What taking an ask of a desk with so many graphs comes to, by what was seen before and by the history now: the first
+-- ask that may be taken is; or asks wait, of which this is the oldest, and each is passed over; or none waits.
 abbrev pub IsTakeAnswer : TableId → ℕ → List DeskEntry → List DeskEntry → TakeAnswer → Type 0
 IsTakeAnswer register graphs front history (Taken taken) = (taken.register ≡ register) × (taken.ask.graph < graphs) × HasTaken front history taken
 IsTakeAnswer register graphs front history (Busy n) = IsOldestWaiting history n × EachIsPassedOver history

@@ -15,15 +15,16 @@ pub record HasAsked (caller graph n : ℕ) (old new : List DeskEntry) (number : 
   pub last : length (asks_of new) ≡ number + 1
   pub kept_it : asks_by caller new ≡ asks_by caller old ++ new_ask number caller graph n ∷ []
 
--- Why the books of a desk, with so many asks, refuse one: they are full; out of memory is returned only where they are not.
+-- Why the books of a desk, with so many asks, refuse one: they are full; out of memory is returned only where they are
+-- not.
 abbrev pub RefusesAsk : ℕ → DeskError → Type 0
 RefusesAsk count (NoSuchGraph g) = ⊥
 RefusesAsk count (TooOften t) = ⊥
 RefusesAsk count (Full seen) = (seen ≡ count) × (count ≡ ask_limit)
 RefusesAsk count NoMemory = count < ask_limit
 
--- Why a desk with so many graphs refuses an ask, in the order in which the reasons are looked at. For the first two nobody
--- looks at the desk; the others tell what the pass has seen in this call.
+-- Why a desk with so many graphs refuses an ask, in the order in which the reasons are looked at. For the first two
+-- nobody looks at the desk; the others tell what the pass has seen in this call.
 abbrev pub IsRefused : ℕ → ℕ → ℕ → PassState → PassState → DeskError → Type 0
 IsRefused graphs graph n old new (NoSuchGraph g) = (g ≡ graph) × (graphs ≤ graph) × (new ≡ old)
 IsRefused graphs graph n old new (TooOften t) = (t ≡ n) × (graph < graphs) × (times_limit < n) × (new ≡ old)

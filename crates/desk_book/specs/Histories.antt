@@ -52,7 +52,8 @@ MayTakeAt asks turn n = (turn n ≡ Waiting) × IsSomeAnd (slice_get asks n) (λ
 abbrev pub MayTake : List DeskEntry → ℕ → Type 0
 MayTake history n = MayTakeAt (asks_of history) (turn_of history) n
 
--- An ask may follow a history: it has the next number, its caller and its graph are there, and it asks for few enough rounds.
+-- An ask may follow a history: it has the next number, its caller and its graph are there, and it asks for few enough
+-- rounds.
 pub record AskRule (graphs callers : ℕ) (before : List DeskEntry) (ask : Ask) : Type 0 where
   pub number : ask.number ≡ length (asks_of before)
   pub few : ask.number < ask_limit
@@ -80,6 +81,14 @@ IsWaiting history n = (n < length (asks_of history)) × (turn_of history n ≡ W
 
 abbrev pub NoneWaits : List DeskEntry → Type 0
 NoneWaits history = (n : ℕ) → IsWaiting history n → ⊥
+
+-- an ask has not ended
+abbrev pub IsUnended : List DeskEntry → ℕ → Type 0
+IsUnended history n = (n < length (asks_of history)) × (IsOver (turn_of history n) → ⊥)
+
+-- the first ask that has not ended: each before it has
+abbrev pub IsFirstUnended : List DeskEntry → ℕ → Type 0
+IsFirstUnended history n = IsUnended history n × ((m : ℕ) → m < n → IsOver (turn_of history m))
 
 -- no ask may be taken
 abbrev pub NoneMayBeTaken : List DeskEntry → Type 0

@@ -3,7 +3,7 @@ ghost use Rattle.std.specs.Prelude.{◌≡◌, ◌+◌, ◌*◌, ◌≤◌, ◌<
 ghost use Rattle.desk_book.specs.declared.entry.DeskEntry.TheVariants.{Asked};
 ghost use Rattle.desk_book.specs.declared.entry.Ask.{Ask as AskOf};
 ghost use Rattle.desk_book.specs.declared.turn.Turn.TheVariants.{Waiting};
-ghost use Rattle.desk_book.specs.Histories.{AskRule, IsDeskHistory, IsOldestWaiting, IsOver, NoneMayBeTaken, NoneWaits, asks_of, ask_limit, turn_of};
+ghost use Rattle.desk_book.specs.Histories.{AskRule, IsDeskHistory, IsFirstUnended, IsOldestWaiting, IsOver, NoneMayBeTaken, NoneWaits, asks_of, ask_limit, turn_of};
 ghost use Rattle.desk_book.specs.Books.{BookHistory, NothingOut, book_history, caller_of, with_entry, with_items};
 ghost use Rattle.desk_book.specs.Taking.{HasSeen, IsFreshPass, IsPassFor, entries_seen};
 ghost use Rattle.desk_book.specs.Changes.{EndsTaken, TakesFirst};
@@ -92,8 +92,8 @@ impl DeskBook {
         Ok(())
     }
 
-    /// Takes the first ask that may be taken: asks of busy graphs are passed over. `None` exactly where there is none. It
-    /// takes no memory.
+    /// Takes the first ask that may be taken: asks of busy graphs are passed over. `None` exactly where there is none.
+    /// It takes no memory.
     pub fn take_in(&mut self, register: &Register<Outstanding>) -> Option<Taken>
         requires register { self.old.register ≡ register.now }
         ensures items { length self.old.items ≤ length self.new.items }
@@ -153,8 +153,7 @@ impl DeskBook {
 
     /// The first ask that has not ended.
     pub fn first_unended(&self) -> Option<u64>
-        ensures some { IfSome result (λ n. (n < length (asks_of self.now.history))
-            × (IsOver (turn_of self.now.history n) → ⊥)) }
+        ensures some { IfSome result (IsFirstUnended self.now.history) }
         ensures none { IfNone result ((n : ℕ) → n < length (asks_of self.now.history)
             → IsOver (turn_of self.now.history n)) }
     {
@@ -178,7 +177,8 @@ impl DeskBook {
 }
 
 impl DeskBook {
-    /// Takes a pass's ticket back, and learns that what it has seen is a prefix of the history, with all asks of its caller.
+    /// Takes a pass's ticket back, and learns that what it has seen is a prefix of the history, with all asks of its
+    /// caller.
     pub fn close_pass(
         &mut self,
         register: &Register<Outstanding>,

@@ -61,8 +61,8 @@ impl<J: Recurs + Drop> Model for Desk<J> {
 }
 
 impl<J: Recurs + Drop> Desk<J> {
-    /// Asks for so many rounds of a graph, and returns the ask's number. It may wait for the desk. The memory for what is
-    /// to come of the ask is taken here. After an `Err` nothing was asked.
+    /// Asks for so many rounds of a graph, and returns the ask's number. It may wait for the desk. The memory for what
+    /// is to come of the ask is taken here. After an `Err` nothing was asked.
     pub fn ask<R: Wait>(
         &self,
         rt: &R,
@@ -121,9 +121,9 @@ impl<J: Recurs + Drop> Desk<J> {
         answer
     }
 
-    /// Takes the first ask that may be taken: asks of graphs of which another was taken and has not ended are passed over.
-    /// It may wait for the desk, and takes no memory. It looks at the desk in each call, and its answer is what the pass
-    /// has then seen.
+    /// Takes the first ask that may be taken: asks of graphs of which another was taken and has not ended are passed
+    /// over. It may wait for the desk, and takes no memory. It looks at the desk in each call, and its answer is what
+    /// the pass has then seen.
     pub fn take<R: Wait>(&self, rt: &R, pass: &mut DeskPass) -> TakeAnswer
         requires pass { IsPassOf self.now pass.old }
         ensures pass { IsPassOf self.now pass.new }
@@ -148,8 +148,8 @@ impl<J: Recurs + Drop> Desk<J> {
         answer
     }
 
-    /// Ends an ask that was taken with its rounds: all of them (`whole`), or the first ones where they were cut. They are
-    /// kept with the ask. It may wait for the desk, and takes no memory.
+    /// Ends an ask that was taken with its rounds: all of them (`whole`), or the first ones where they were cut. They
+    /// are kept with the ask. It may wait for the desk, and takes no memory.
     pub fn end<R: Wait>(
         &self,
         rt: &R,

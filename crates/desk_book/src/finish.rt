@@ -21,13 +21,13 @@ use tickets::Register;
 pub enum DeskEnd<J: Recurs + Drop> {
     /// Each ask ended: what the desk came to.
     Done(DeskRun<J>),
-    /// An ask that has not ended, with the desk and its passes.
+    /// The first ask that has not ended, with the desk and its passes.
     Open(Desk<J>, Vec<DeskPass>, u64),
 }
 
 impl<J: Recurs + Drop> Desk<J> {
-    /// Finishes the desk, if each ask has ended. It takes no memory, and may wait. `Open` is returned exactly where an ask
-    /// has not ended; it carries the first, and each pass has looked and has seen that.
+    /// Finishes the desk, if each ask has ended. It takes no memory, and may wait. `Open` is returned exactly if an ask
+    /// has not ended. It carries the first such ask, and each pass has looked and has seen that it is the first.
     pub fn finish<R: Wait>(self, rt: &R, passes: Vec<DeskPass>) -> DeskEnd<J>
         requires { ArePassesOf self passes.items }
         ensures { IsFinished J.Job.meaning self passes.items result }

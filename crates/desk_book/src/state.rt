@@ -2,15 +2,15 @@
 ghost use Rattle.std.specs.Prelude.{◌≡◌, ◌+◌, ◌<◌, ◌≤◌, ◌++◌, ◌∷◌, [], ℕ, true, false, length, map, IfOk, IfErr, IfNone, IfSome, OnOk, OnErr, Some, slice_get, slice_set};
 ghost use Rattle.std.specs.Arc.{arc_value};
 ghost use Rattle.desk_book.specs.declared.entry.Ask.{Ask as AskOf};
-ghost use Rattle.desk_book.specs.Histories.{AskRule, IsOver, NoneMayBeTaken, asks_by, asks_of, times_limit, turn_of};
+ghost use Rattle.desk_book.specs.Histories.{AskRule, IsFirstUnended, IsOver, NoneMayBeTaken, asks_by, asks_of, times_limit, turn_of};
 ghost use Rattle.desk_book.specs.Books.{NothingOut, book_history, caller_of, with_items};
 ghost use Rattle.desk_book.specs.Taking.{HasSeen, IsFreshPass, IsPassFor, entries_seen};
 ghost use Rattle.desk_book.specs.Changes.{EndsTaken, TakesFirst};
 ghost use Rattle.desk_book.specs.Asks.{HasAsked, RefusesAsk, new_ask};
 ghost use Rattle.desk_book.specs.Answers.{HasEnded, IsTakeAnswer};
 ghost use Rattle.desk_book.specs.Passes.{GoesOn, IsTicketOf, seen};
-ghost use Rattle.desk_book.specs.Rounds.{AreRoundsOf};
-ghost use Rattle.desk_book.specs.Finishes.{IsDeskRun, IsUnended};
+ghost use Rattle.desk_book.specs.Rounds.{AreRoundsOf, journals_of};
+ghost use Rattle.desk_book.specs.Finishes.{IsDeskRun};
 ghost use Rattle.desk_book.specs.Desks.{graph_limit};
 ghost use Rattle.desk_book.specs.States.{desk_key, desk_locked, key_of, with_ask, with_book, with_rounds};
 
@@ -49,6 +49,7 @@ pub struct DeskState<J: Recurs + Drop> {
 impl<J: Recurs + Drop> Model for DeskState<J> {
     ghost use Rattle.std.specs.Prelude.{length, map};
     ghost use Rattle.std.specs.Arc.{arc_value};
+    ghost use Rattle.desk_book.specs.Rounds.{journals_of};
     ghost use Rattle.desk_book.specs.States.{DeskLocked, desk_locked};
 
     ghost Value = { DeskLocked J };
@@ -56,7 +57,7 @@ impl<J: Recurs + Drop> Model for DeskState<J> {
     ghost use Rattle.desk_book.specs.inside.KeepsRuns.{KeepsRuns};
 
     ghost view = { λ s. desk_locked s.book (map arc_value s.jobs.value.items)
-        (map (λ runs. length runs) s.runs.items) };
+        (map journals_of s.runs.items) };
 
     ghost invariant = { λ s. KeepsRuns J.Job.meaning s.book (map arc_value s.jobs.value.items)
         s.runs.items };
@@ -84,8 +85,8 @@ impl<J: Recurs + Drop> DeskState<J> {
         Ok(())
     }
 
-    /// Takes the first ask that may be taken: asks of busy graphs are passed over. `None` exactly where there is none. It
-    /// takes no memory.
+    /// Takes the first ask that may be taken: asks of busy graphs are passed over. `None` exactly where there is none.
+    /// It takes no memory.
     pub fn take_in(&mut self, register: &Register<Outstanding>) -> Option<Taken>
         requires register { self.old.book.register ≡ register.now }
         ensures book { self.new ≡ with_book self.old self.new.book }
@@ -99,7 +100,8 @@ impl<J: Recurs + Drop> DeskState<J> {
         self.book.take_in(register)
     }
 
-    /// Ends an ask that was taken with its rounds: all of them, or the first ones where they were cut. It takes no memory.
+    /// Ends an ask that was taken with its rounds: all of them, or the first ones where they were cut. It takes no
+    /// memory.
     pub fn end_in(
         &mut self,
         register: &Register<Outstanding>,
@@ -112,7 +114,7 @@ impl<J: Recurs + Drop> DeskState<J> {
         requires rounds { AreRoundsOf J.Job.meaning self.old.jobs taken.ask whole runs }
         ensures ended { EndsTaken self.old.book taken whole self.new.book }
         ensures rounds { self.new
-            ≡ with_rounds self.old self.new.book taken.ask.number (length runs) }
+            ≡ with_rounds self.old self.new.book taken.ask.number (journals_of runs) }
     {
         let number = taken.ask().number;
         self.book.end_in(register, taken, whole);
@@ -121,7 +123,8 @@ impl<J: Recurs + Drop> DeskState<J> {
 }
 
 impl<J: Recurs + Drop> DeskState<J> {
-    /// Takes a pass's ticket back, and learns that what it has seen is a prefix of the history, with all asks of its caller.
+    /// Takes a pass's ticket back, and learns that what it has seen is a prefix of the history, with all asks of its
+    /// caller.
     pub(crate) fn close_pass(
         &mut self,
         register: &Register<Outstanding>,
@@ -303,6 +306,8 @@ impl<J: Recurs + Drop> DeskState<J> {
         ensures kept { asks_by caller (entries_seen result.item)
             ≡ asks_by caller (entries_seen ticket.item) }
         ensures ended { HasEnded (entries_seen result.item) taken whole }
+        ensures rounds { self.new.rounds
+            ≡ slice_set self.old.rounds taken.ask.number (journals_of runs) }
     {
         self.end_in(register, taken, runs, whole);
         self.look(register, ticket, caller)
@@ -330,7 +335,7 @@ impl<J: Recurs + Drop> DeskState<J> {
 
     /// The first ask that has not ended.
     pub fn first_unended(&self) -> Option<u64>
-        ensures some { IfSome result (IsUnended self.now.book.history) }
+        ensures some { IfSome result (IsFirstUnended self.now.book.history) }
         ensures none { IfNone result ((n : ℕ) → n < length (asks_of self.now.book.history)
             → IsOver (turn_of self.now.book.history n)) }
     {
@@ -345,7 +350,7 @@ impl<J: Recurs + Drop> DeskState<J> {
         ensures history { result.history ≡ self.book.history }
         ensures callers { (n : ℕ) (ask : AskOf) → slice_get (asks_of result.history) n ≡ Some ask
             → ask.caller < self.book.callers }
-        ensures rounds { map (λ runs. length runs) result.runs ≡ self.rounds }
+        ensures rounds { map journals_of result.runs ≡ self.rounds }
     {
         let DeskState { book, runs, .. } = self;
         DeskRun {

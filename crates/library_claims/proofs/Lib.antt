@@ -2,3 +2,6 @@ pub mod WorkedHistories
 pub mod WorkedAsyncBooks
 pub mod WorkedAsyncPasses
 pub mod WorkedRunJournals
+pub mod WorkedDesks
+pub mod WorkedDeskBooks
+pub mod WorkedDeskRuns

@@ -6,5 +6,8 @@
 //! - `WorkedHistories`: which histories of async tasks are right, each wrong one breaking one line of the definitions;
 //! - `WorkedAsyncBooks`: what an add, a start and an end of a book of tasks change, what may be started, and what is refused;
 //! - `WorkedAsyncPasses`: what passes, seats and tickets of such books say, and what finishing one comes to;
-//! - `WorkedRunJournals`: the net and the journal of a run of such tasks, and which journals are whole.
+//! - `WorkedRunJournals`: the net and the journal of a run of such tasks, and which journals are whole;
+//! - `WorkedDesks`: which histories of desks are right, whose turn it is, and which ask is the first that has not ended;
+//! - `WorkedDeskBooks`: what asks, takes and ends change in the books of a desk, what a pass has seen, what is refused;
+//! - `WorkedDeskRuns`: which rounds are kept of an ask, what is under a desk's lock, and what finishing a desk comes to.
 #![tactic(auto)]

@@ -28,7 +28,8 @@ pub record IsAskAt (graphs callers n : ℕ) (ask : Ask) : Type 0 where
   pub graph : ask.graph < graphs
   pub caller : ask.caller < callers
 
--- The history is right; the asks, how far each is, and whose turn it is are what it says; there is room for what is still to come.
+-- The history is right; the asks, how far each is, and whose turn it is are what it says; there is room for what is
+-- still to come.
 pub record KeepsTurns (graphs callers room : ℕ) (history : List DeskEntry) (asks : List Ask) (turns : List Turn) (next : List (Option ℕ)) (oldest : ℕ) : Type 0 where
   pub is_history : IsDeskHistory graphs callers history
   pub same_asks : asks_of history ≡ asks
