@@ -2,6 +2,7 @@
 //! took; without a subject it does nothing. The scripts in bench/ call it. It is no part of the product.
 #![tactic(auto)]
 
+mod asyncs;
 mod clock;
 mod draws;
 mod files;
@@ -23,6 +24,7 @@ fn main(rt: HostRuntime) -> io::Result<()> {
         return Ok(());
     };
     match subject.as_str() {
+        "asyncs" => asyncs::measure(&rt, words),
         "draws" => draws::measure(&rt, words),
         "frames" => frames::measure(&rt, rt.alloc()),
         "graphs" => graphs::measure(&rt, words),
