@@ -1,10 +1,10 @@
 #!/usr/bin/env bash
 # Measures books of async tasks. The processor time of all threads for a task where two callers add 50,000 tasks each,
-# every one after the caller's last, beside two workers; and how long one worker and four take for 100,000 tasks of about
-# two microseconds that wait for nothing. The kinds of calls are taken in turn, eleven of each or as many as the argument
-# says; it prints the median and the least of each figure, and the ratio of the turns and of the least times. It builds
-# the program first, and says the load before and after. It needs python3; run it as `bash bench/async.sh`, from any
-# folder, on a machine with four idle processors.
+# every one after the caller's last, beside two workers; and how long one worker and four take for 100,000 tasks of
+# about two microseconds that wait for nothing. The kinds of calls are taken in turn, eleven of each or as many as the
+# argument says; it prints the median and the least of each figure, and the ratio of the turns and of the least times.
+# It builds the program first, and says the load before and after. It needs python3; run it as `bash bench/async.sh`,
+# from any folder, on a machine with four idle processors.
 set -euo pipefail
 crate=$(cd "$(dirname "${BASH_SOURCE[0]}")/.." && pwd)/crates/bench_async
 (cd "$crate" && rt run > /dev/null)

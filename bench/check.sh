@@ -1,8 +1,8 @@
 #!/usr/bin/env bash
 # Measures `flow check` beside `ninja -n` on the same graph of 10,000 tasks and 100,000 edges, without conditions and
 # circles: the best of fifteen calls of each, taken in turn, in milliseconds, and their ratio. Each of the two reads its
-# own file, ninja the commands that it would run, flow the graph; what they print goes into a file. It needs ninja (Debian's
-# package ninja-build) and python3. Run it as `bash bench/check.sh`, from any folder.
+# own file, ninja the commands that it would run, flow the graph; what they print goes into a file. It needs ninja
+# (Debian's package ninja-build) and python3. Run it as `bash bench/check.sh`, from any folder.
 set -euo pipefail
 flow=$(cd "$(dirname "${BASH_SOURCE[0]}")/.." && pwd)/crates/flow/out/flow
 [ -x "$flow" ] || { echo "build the program first: make" >&2; exit 1; }

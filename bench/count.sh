@@ -1,10 +1,10 @@
 #!/usr/bin/env bash
-# Measures `flow count` on texts of 16 MB with lines of random hexadecimal digits, of 7, 16 and 100 bytes with their ends:
-# the lines in which `abcd` occurs, by one worker and by four, in chunks of one line and of the default, beside `grep -Fc`
-# and `flow run` with a keep and a count by one worker; and the same command on an empty text, which is what a call takes
-# besides. The kinds of calls are taken in turn, eleven of each or as many as the first argument says. It prints the median
-# and the least time of each and says the load before and after. It needs python3; run it as `bash bench/count.sh`, from any
-# folder, on a machine with four idle processors.
+# Measures `flow count` on texts of 16 MB with lines of random hexadecimal digits, of 7, 16 and 100 bytes with their
+# ends: the lines in which `abcd` occurs, by one worker and by four, in chunks of one line and of the default, beside
+# `grep -Fc` and `flow run` with a keep and a count by one worker; and the same command on an empty text, which is what
+# a call takes besides. The kinds of calls are taken in turn, eleven of each or as many as the first argument says. It
+# prints the median and the least time of each and says the load before and after. It needs python3; run it as `bash
+# bench/count.sh`, from any folder, on a machine with four idle processors.
 set -euo pipefail
 flow=$(cd "$(dirname "${BASH_SOURCE[0]}")/.." && pwd)/crates/flow/out/flow
 [ -x "$flow" ] || { echo "build the program first: make" >&2; exit 1; }

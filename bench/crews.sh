@@ -1,16 +1,17 @@
 #!/usr/bin/env bash
-# Measures the built program by several workers, on texts of 8 MB with lines of random digits, of 7 and of 100 bytes with
-# their ends: eight reads (of 7 bytes alone), eight sorts, and eight reads with keep, sort and count each, by one worker
-# and by four; a read and 9,999 counts of it by one and by four; a chain of 10,000 tasks by one and by sixteen. Beside the
-# eight sorts, four programs that do two of them each by one worker, started at once: what the machine gives to threads
-# that share nothing. The kinds of calls are taken in turn, fifteen of each or as many as the first argument says; a second
-# argument runs only the rows whose names contain it. Of times and of the processor time of all threads it prints the
-# median and the least, of speeds the median of the turns and the ratio of the least times, and how much of the time for
-# which its processors had work the host of a virtual machine kept them. Where that is more than two in a hundred in a
-# call, its turn is left out of a second line, of the quiet turns. With a third argument, `steady`, each processor has a
-# loop of the idle class beside the calls, which runs where nothing else does: a processor that shares a core or the power
-# with others is faster while these are idle, and with the loops its speed is the same in all calls. It needs python3, says
-# the load before and after, and is run as `bash bench/crews.sh`, from any folder, on a machine with four idle processors.
+# Measures the built program by several workers, on texts of 8 MB with lines of random digits, of 7 and of 100 bytes
+# with their ends: eight reads (of 7 bytes alone), eight sorts, and eight reads with keep, sort and count each, by one
+# worker and by four; a read and 9,999 counts of it by one and by four; a chain of 10,000 tasks by one and by sixteen.
+# Beside the eight sorts, four programs that do two of them each by one worker, started at once: what the machine gives
+# to threads that share nothing. The kinds of calls are taken in turn, fifteen of each or as many as the first argument
+# says; a second argument runs only the rows whose names contain it. Of times and of the processor time of all threads
+# it prints the median and the least, of speeds the median of the turns and the ratio of the least times, and how much
+# of the time for which its processors had work the host of a virtual machine kept them. Where that is more than two in
+# a hundred in a call, its turn is left out of a second line, of the quiet turns. With a third argument, `steady`, each
+# processor has a loop of the idle class beside the calls, which runs where nothing else does: a processor that shares a
+# core or the power with others is faster while these are idle, and with the loops its speed is the same in all calls.
+# It needs python3, says the load before and after, and is run as `bash bench/crews.sh`, from any folder, on a machine
+# with four idle processors.
 set -euo pipefail
 flow=$(cd "$(dirname "${BASH_SOURCE[0]}")/.." && pwd)/crates/flow/out/flow
 [ -x "$flow" ] || { echo "build the program first: make" >&2; exit 1; }

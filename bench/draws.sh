@@ -1,9 +1,10 @@
 #!/usr/bin/env bash
-# Measures counts of the lines of 16 MB in which `abcd` occurs, by one, two and four workers that draw chunks of lines, once
-# the text is read and its line ends are found: the least microseconds of nine by `bench draws`, for lines of random
-# hexadecimal digits of 7, 16 and 100 bytes with their ends, and how many times as fast several workers are. Then four calls
-# at once by one worker each beside one alone, which is the most that four workers can gain here. It builds the program
-# first, and needs python3. Run it as `bash bench/draws.sh`, from any folder, on a machine with four idle processors.
+# Measures counts of the lines of 16 MB in which `abcd` occurs, by one, two and four workers that draw chunks of lines,
+# once the text is read and its line ends are found: the least microseconds of nine by `bench draws`, for lines of
+# random hexadecimal digits of 7, 16 and 100 bytes with their ends, and how many times as fast several workers are. Then
+# four calls at once by one worker each beside one alone, which is the most that four workers can gain here. It builds
+# the program first, and needs python3. Run it as `bash bench/draws.sh`, from any folder, on a machine with four idle
+# processors.
 set -euo pipefail
 crate=$(cd "$(dirname "${BASH_SOURCE[0]}")/.." && pwd)/crates/bench
 (cd "$crate" && rt run > /dev/null)

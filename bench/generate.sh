@@ -1,8 +1,8 @@
 #!/usr/bin/env bash
 # Measures `flow generate 900` by one and by four workers beside the same graph over oneTBB's flow graph with plain
-# std::string operations (bench/peers/generate_tbb.cpp), which has to print the same. All calls are made in turn, nine of
-# each or as many as the argument says. It needs python3, g++ and oneTBB (Debian's libtbb-dev), says the load before and
-# after, and is run as `bash bench/generate.sh`, from any folder, on a machine with four idle processors.
+# std::string operations (bench/peers/generate_tbb.cpp), which has to print the same. All calls are made in turn, nine
+# of each or as many as the argument says. It needs python3, g++ and oneTBB (Debian's libtbb-dev), says the load before
+# and after, and is run as `bash bench/generate.sh`, from any folder, on a machine with four idle processors.
 set -euo pipefail
 bench=$(cd "$(dirname "${BASH_SOURCE[0]}")" && pwd)
 flow=$bench/../crates/flow/out/flow

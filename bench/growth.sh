@@ -1,10 +1,11 @@
 #!/usr/bin/env bash
 # How the program's work grows: instructions by `valgrind --tool=callgrind`, which are the same on a busy machine, for
-# tasks, edges, starts, names of texts and bytes of a text, each doubled five times within the limits, by one worker. Below
-# the figures is the slope, which is 1 where twice as many take twice as long: by how much the logarithm of what a call
-# takes more than one on an empty graph rises with that of the number, over all sizes (least squares) and at the last
-# doubling. Then the processor time of a fan of 10,000 tasks by 1 to 16 workers, the least and the median of so many calls
-# as the first argument says, or eleven. It needs valgrind and python3; run it as `bash bench/growth.sh`, from any folder.
+# tasks, edges, starts, names of texts and bytes of a text, each doubled five times within the limits, by one worker.
+# Below the figures is the slope, which is 1 where twice as many take twice as long: by how much the logarithm of what a
+# call takes more than one on an empty graph rises with that of the number, over all sizes (least squares) and at the
+# last doubling. Then the processor time of a fan of 10,000 tasks by 1 to 16 workers, the least and the median of so
+# many calls as the first argument says, or eleven. It needs valgrind and python3; run it as `bash bench/growth.sh`,
+# from any folder.
 set -euo pipefail
 flow=$(cd "$(dirname "${BASH_SOURCE[0]}")/.." && pwd)/crates/flow/out/flow
 [ -x "$flow" ] || { echo "build the program first: make" >&2; exit 1; }

@@ -1,7 +1,7 @@
 #!/usr/bin/env bash
-# Measures the reading and the writing of a journal's text, by `bench journals`, on a journal of nearly
-# 67,108,864 bytes: the seconds of reading beside those of `wc -w` on the same file, the bytes of memory an entry besides
-# the file's own, and the megabytes that are written in a second into a file. The best of seven. It builds the program
+# Measures the reading and the writing of a journal's text, by `bench journals`, on a journal of nearly 67,108,864
+# bytes: the seconds of reading beside those of `wc -w` on the same file, the bytes of memory an entry besides the
+# file's own, and the megabytes that are written in a second into a file. The best of seven. It builds the program
 # first, and needs python3 and GNU time. Run it as `bash bench/journal.sh`, from any folder.
 set -euo pipefail
 crate=$(cd "$(dirname "${BASH_SOURCE[0]}")/.." && pwd)/crates/bench

@@ -1,7 +1,7 @@
 #!/usr/bin/env bash
-# Measures the built program beside `grep -F` and `wc -l` on the same text, on chains of 1,000 and 10,000 tasks, and
-# on a read with 9,999 counts behind it. It says seconds and the most memory in use (13 MB are the measuring script's own). Run it as
-# `bash bench/measure.sh`, from any folder.
+# Measures the built program beside `grep -F` and `wc -l` on the same text, on chains of 1,000 and 10,000 tasks, and on
+# a read with 9,999 counts behind it. It says seconds and the most memory in use (13 MB are the measuring script's own).
+# Run it as `bash bench/measure.sh`, from any folder.
 set -euo pipefail
 flow=$(cd "$(dirname "${BASH_SOURCE[0]}")/.." && pwd)/crates/flow/out/flow
 [ -x "$flow" ] || { echo "build the program first: make" >&2; exit 1; }

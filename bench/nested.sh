@@ -1,12 +1,12 @@
 #!/usr/bin/env bash
-# Measures what runs inside runs cost. By instructions, one worker: a read of one line and 9,999 counts of it, a spread of
-# 65,536 parts of one line each with a count each, and a read and 2,000 tasks that each run a module of one count; of each
-# the instructions a start, those of the runs inside included, and their ratio to the first. By the clock: 66 sorts in a
-# spread of a text of 8 MB by one worker and by four, beside four programs at once that do a quarter each by one worker;
-# the median and the least time, and how the speed of the four workers compares with that of the four programs. By memory:
-# spreads of 16,384, 32,768 and 65,536 parts, and how many bytes a part they need at most. All timed calls are made in
-# turn, fifteen of each or as many as the argument says. It needs python3, valgrind and GNU time, says the load before and after, and
-# is run as `bash bench/nested.sh`, from any folder, on a machine with four idle processors.
+# Measures what runs inside runs cost. By instructions, one worker: a read of one line and 9,999 counts of it, a spread
+# of 65,536 parts of one line each with a count each, and a read and 2,000 tasks that each run a module of one count; of
+# each the instructions a start, those of the runs inside included, and their ratio to the first. By the clock: 66 sorts
+# in a spread of a text of 8 MB by one worker and by four, beside four programs at once that do a quarter each by one
+# worker; the median and the least time, and how the speed of the four workers compares with that of the four programs.
+# By memory: spreads of 16,384, 32,768 and 65,536 parts, and how many bytes a part they need at most. All timed calls
+# are made in turn, fifteen of each or as many as the argument says. It needs python3, valgrind and GNU time, says the
+# load before and after, and is run as `bash bench/nested.sh`, from any folder, on a machine with four idle processors.
 set -euo pipefail
 flow=$(cd "$(dirname "${BASH_SOURCE[0]}")/.." && pwd)/crates/flow/out/flow
 [ -x "$flow" ] || { echo "build the program first: make program" >&2; exit 1; }

@@ -1,9 +1,9 @@
 #!/usr/bin/env bash
 # Measures pipelines. By instructions, one worker: a start in 65,000 tokens that go through three pipes, beside a start
-# of a graph of 10,000 tasks in a row, of whole calls, and without what reading the files takes; and the order of tokens of
-# which 256 wait for others, for 8,192, 16,384 and 65,536 of them. By the clock: 254 parts of 5,000 lines that a
-# parallel pipe sorts, by four workers, beside four programs at once that each do a quarter of it. All timed calls
-# are made in turn, nine of each or as many as the argument says. It needs python3 and valgrind, says the load before and
+# of a graph of 10,000 tasks in a row, of whole calls, and without what reading the files takes; and the order of tokens
+# of which 256 wait for others, for 8,192, 16,384 and 65,536 of them. By the clock: 254 parts of 5,000 lines that a
+# parallel pipe sorts, by four workers, beside four programs at once that each do a quarter of it. All timed calls are
+# made in turn, nine of each or as many as the argument says. It needs python3 and valgrind, says the load before and
 # after, and is run as `bash bench/pipes.sh`, from any folder, on a machine with four idle processors.
 set -euo pipefail
 flow=$(cd "$(dirname "${BASH_SOURCE[0]}")/.." && pwd)/crates/flow/out/flow

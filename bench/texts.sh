@@ -1,11 +1,10 @@
 #!/usr/bin/env bash
-# Measures the operations on texts, each alone: `bench texts` reads a text of 16 MB once and applies the operation
-# eight times. Beside it stand GNU sort, an awk program that matches lines, `grep -F`, and the copy of as many bytes
-# as the operation gives into memory that wasn't used before. The best of three runs counts; a tool's time is that of
-# its whole run. Where there is a `rustc`, the same work stands beside it in an unverified Rust program
-# (bench/peers/texts.rs), which keeps copies of all values and a journal, or shares texts and frees them: the ratios to
-# both end the line. It builds the programs first. Run it as `bash bench/texts.sh`, from any folder, on a machine with an
-# idle processor.
+# Measures the operations on texts, each alone: `bench texts` reads a text of 16 MB once and applies the operation eight
+# times. Beside it stand GNU sort, an awk program that matches lines, `grep -F`, and the copy of as many bytes as the
+# operation gives into memory that wasn't used before. The best of three runs counts; a tool's time is that of its whole
+# run. Where there is a `rustc`, the same work stands beside it in an unverified Rust program (bench/peers/texts.rs),
+# which keeps copies of all values and a journal, or shares texts and frees them: the ratios to both end the line. It
+# builds the programs first. Run it as `bash bench/texts.sh`, from any folder, on a machine with an idle processor.
 set -euo pipefail
 bench=$(cd "$(dirname "${BASH_SOURCE[0]}")" && pwd)
 crate=$bench/../crates/bench

@@ -1,12 +1,12 @@
 #!/usr/bin/env bash
-# Measures what a semaphore costs, and whether workers that find no unit stay idle: a read of a small text and 9,998 tasks
-# behind it that pass it on, without a semaphore and with one of one unit that each of them holds, by 1, 4 and 16 workers;
-# 4,999 pairs of tasks, of which the first takes the unit and the second gives it back; and 9,995 tasks that wait for two
-# units, of which one comes back and the other never does, so that the run gets stuck. All calls are made in turn,
-# fifteen of each or as many as the argument says. Of the times and of the processor time of all threads it prints the
-# median and the least, and their ratios: of the graph with the semaphore to the one without, by as many workers, and of
-# the processor time by 16 workers to that by one. It needs python3, says the load before and after, and is run as
-# `bash bench/units.sh`, from any folder, on a machine with four idle processors.
+# Measures what a semaphore costs, and whether workers that find no unit stay idle: a read of a small text and 9,998
+# tasks behind it that pass it on, without a semaphore and with one of one unit that each of them holds, by 1, 4 and 16
+# workers; 4,999 pairs of tasks, of which the first takes the unit and the second gives it back; and 9,995 tasks that
+# wait for two units, of which one comes back and the other never does, so that the run gets stuck. All calls are made
+# in turn, fifteen of each or as many as the argument says. Of the times and of the processor time of all threads it
+# prints the median and the least, and their ratios: of the graph with the semaphore to the one without, by as many
+# workers, and of the processor time by 16 workers to that by one. It needs python3, says the load before and after, and
+# is run as `bash bench/units.sh`, from any folder, on a machine with four idle processors.
 set -euo pipefail
 flow=$(cd "$(dirname "${BASH_SOURCE[0]}")/.." && pwd)/crates/flow/out/flow
 [ -x "$flow" ] || { echo "build the program first: make program" >&2; exit 1; }

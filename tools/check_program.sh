@@ -1,9 +1,10 @@
 #!/usr/bin/env bash
-# Runs the built program on each of the examples, also by 1, 4 and 16 workers and in version 2 of its graph file, on graphs
-# with semaphores and pipelines, also random ones, for rounds and profiles, for lines with a word, on command lines and files
-# that it refuses, on texts of which one can't be read, on outputs that fail and without memory, and compares its exit code,
-# standard output and standard error; and counts the threads of runs by several workers. Prints a line for each difference,
-# and ends with status 1 where there is one. Its one argument is the program; without it that of the last build is run.
+# Runs the built program on each of the examples, also by 1, 4 and 16 workers and in version 2 of its graph file, on
+# graphs with semaphores and pipelines, also random ones, for rounds and profiles, for lines with a word, on command
+# lines and files that it refuses, on texts of which one can't be read, on outputs that fail and without memory, and
+# compares its exit code, standard output and standard error; and counts the threads of runs by several workers. Prints
+# a line for each difference, and ends with status 1 where there is one. Its one argument is the program; without it
+# that of the last build is run.
 set -euo pipefail
 top=$(realpath "$(dirname "${BASH_SOURCE[0]}")/..")
 program=$(realpath "${1:-$top/crates/flow/out/flow}")

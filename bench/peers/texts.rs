@@ -1,8 +1,8 @@
-// An unverified peer of the operations on texts, with Rust's std alone: `texts keeps|shares NAME FILE [OPERAND]` reads the
-// file once, applies the operation of this name eight times, and prints the microseconds of one and how many bytes it
-// gives. `keeps` copies the text for each application, as a program does that gives each task values of its own, and keeps
-// the values and a journal of starts and ends; `shares` hands the text on, cuts it without a copy and frees what it made.
-// It is built by `rustc -O`.
+// An unverified peer of the operations on texts, with Rust's std alone: `texts keeps|shares NAME FILE [OPERAND]` reads
+// the file once, applies the operation of this name eight times, and prints the microseconds of one and how many bytes
+// it gives. `keeps` copies the text for each application, as a program does that gives each task values of its own, and
+// keeps the values and a journal of starts and ends; `shares` hands the text on, cuts it without a copy and frees what
+// it made. It is built by `rustc -O`.
 use std::borrow::Cow;
 use std::collections::HashMap;
 use std::time::Instant;

@@ -12,6 +12,8 @@ use Rattle.async_tasks.specs.declared.history.AddRow.{AddRow}
 use Rattle.async_tasks.specs.declared.history.TaskEvent.{TaskEvent}
 use Rattle.async_tasks.specs.declared.history.TaskEvent.TheVariants.{Started, Ended}
 use Rattle.async_tasks.specs.Histories.{is_start_of, is_end_of, times_started, times_ended}
+use Rattle.async_tasks.specs.declared.run.AsyncRun.{AsyncRun}
+use Rattle.async_tasks.specs.Runs.{IsAsyncRun}
 use Rattle.async_journal.specs.RunNets.{plain_task, edges_into, edges_of_add, with_plain_tasks, with_edge_rows, run_net}
 use Rattle.async_journal.specs.RunJournals.{place_of, named_by, cause_after, part_of, end_gives, entry_of, run_journal}
 use Rattle.async_journal.specs.WholeJournals.{IsFinishedHistory, IsWholeJournal}
@@ -82,6 +84,10 @@ unfinished = ((λ h. absurd (omega (arith, (h.each 0 (omega arith)).1))), (λ h.
 
 ended_before_its_start : ¬ IsFinishedHistory one (Ended 0 ∷ Started 0 ∷ [])
 ended_before_its_start h = absurd (omega (arith, h.history.each_event.0.0))
+
+-- what a finished book gives has such a history
+finished_of_a_run : {W V : Type 0} (answers : W → List V → V → Type 0) (callers : ℕ) (run : AsyncRun W V) → IsAsyncRun answers callers run → IsFinishedHistory run.adds run.events
+finished_of_a_run answers callers run is = record { callers = callers; history = is.history; each = is.complete }
 
 -- the journal of no tasks is whole; one that isn't legal, isn't complete, or in which a start finds another value is not
 whole : IsWholeJournal (run_net []) 0 []
