@@ -2,8 +2,13 @@
 ghost use Rattle.std.specs.Prelude.{◌≤◌, IfOk, length};
 
 use outside_io::{FolderTexts, Found, List, Texts};
+use std::alloc::AllocError;
 use std::env::Args;
 use std::io;
+use text_ops::Text;
+
+// The most bytes of a text.
+const TEXT_LIMIT: u64 = 16_777_215;
 
 /// The next word, which is empty where there is none.
 pub fn next_word(rt: &HostRuntime, words: &mut Args) -> String {
@@ -18,4 +23,11 @@ pub fn bytes_of(rt: &HostRuntime, file: &str, most: u64) -> io::Result<List<u8>>
         Ok(Found::Text(bytes)) => Ok(bytes),
         _ => Err(io::ErrorKind::NotFound.into()),
     }
+}
+
+/// The text of the file that the next word names.
+pub fn text_of(rt: &HostRuntime, words: &mut Args) -> io::Result<Text> {
+    let file = next_word(rt, words);
+    let bytes = bytes_of(rt, file.as_str(), TEXT_LIMIT)?;
+    Ok(Text::from_bytes(rt.alloc(), bytes).map_err(|_| AllocError)?)
 }

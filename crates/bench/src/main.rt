@@ -24,8 +24,15 @@ fn main(rt: HostRuntime) -> io::Result<()> {
         return Ok(());
     };
     match subject.as_str() {
-        "asyncs" => asyncs::measure(&rt, words),
-        "draws" => draws::measure(&rt, words),
+        "asyncs" => {
+            let word = files::next_word(&rt, &mut words);
+            asyncs::measure(&rt, rt.alloc(), word.as_str())
+        }
+        "draws" => {
+            let word = files::next_word(&rt, &mut words);
+            let text = files::text_of(&rt, &mut words)?;
+            draws::measure(&rt, rt.alloc(), word.as_str(), &text)
+        }
         "frames" => frames::measure(&rt, rt.alloc()),
         "graphs" => graphs::measure(&rt, words),
         "journals" => journals::measure(&rt, words),

@@ -1,17 +1,14 @@
 // The operations on texts, each alone.
 use crate::clock::micros_since;
-use crate::files::{bytes_of, next_word};
+use crate::files::{next_word, text_of};
 use outside_io::List;
-use std::alloc::{AllocError, Global};
+use std::alloc::Global;
 use std::env::Args;
 use std::io;
 use std::time::Instant;
 use text_ops::{
     ApplyError, Text, count, head, keep, match_lines, pass, skip, sort, tail, tally, uniq, without,
 };
-
-// The most bytes of a text.
-const MOST: u64 = 16_777_215;
 
 // How often an operation is applied.
 const TIMES: u8 = 8;
@@ -21,10 +18,8 @@ const TIMES: u8 = 8;
 /// time to memory that wasn't used before.
 pub fn measure(rt: &HostRuntime, mut words: Args) -> io::Result<()> {
     let name = next_word(rt, &mut words);
-    let file = next_word(rt, &mut words);
+    let text = text_of(rt, &mut words)?;
     let operand = next_word(rt, &mut words);
-    let bytes = bytes_of(rt, file.as_str(), MOST)?;
-    let text = Text::from_bytes(rt.alloc(), bytes).map_err(|_| AllocError)?;
     if name.as_str() == "copy" {
         copies(rt, operand.as_str(), &text)
     } else {
