@@ -40,6 +40,15 @@ fn a_full_desk_refuses_each_ask(rt: HostRuntime) -> Result<(), Fail> {
         desk.ask(&rt, &mut first, 0, 0),
         Err(DeskError::Full(10_000))
     );
+    // What is wrong with the ask itself comes first.
+    assert_eq!(rt;
+        desk.ask(&rt, &mut first, 2, 0),
+        Err(DeskError::NoSuchGraph(2))
+    );
+    assert_eq!(rt;
+        desk.ask(&rt, &mut first, 0, 1001),
+        Err(DeskError::TooOften(1001))
+    );
     Ok(())
 }
 

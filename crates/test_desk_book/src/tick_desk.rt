@@ -9,7 +9,7 @@ use outside_io::{List, NoMemory};
 use std::alloc::Global;
 use std::sync::{Arc, Wait};
 
-/// A desk of two graphs, of which the first has a task and the second none, with the passes of its two callers.
+/// A desk of two graphs, with the passes of its two callers.
 #[derive(Drop)]
 pub struct TwoCallers {
     pub desk: Desk<TickJob>,
@@ -25,7 +25,7 @@ pub enum Said {
     Empty,
 }
 
-/// A new desk.
+/// A new desk. The first graph has a task, and the second none.
 pub fn two_callers(alloc: Global) -> Result<TwoCallers, NoMemory>
     ensures jobs { IfOk result (λ two. length two.desk.jobs ≡ 2) }
     ensures callers { IfOk result (λ two. two.desk.callers ≡ 2) }
@@ -34,9 +34,25 @@ pub fn two_callers(alloc: Global) -> Result<TwoCallers, NoMemory>
     ensures second { IfOk result
         (λ two. IsPassOf two.desk two.second × (two.second.caller ≡ 1)) }
 {
+    callers_of(
+        alloc,
+        TickJob::of_tasks(alloc, 1)?,
+        TickJob::of_tasks(alloc, 0)?,
+    )
+}
+
+/// A new desk of these two graphs.
+pub fn callers_of(alloc: Global, zeroth: TickJob, oneth: TickJob) -> Result<TwoCallers, NoMemory>
+    ensures jobs { IfOk result (λ two. length two.desk.jobs ≡ 2) }
+    ensures callers { IfOk result (λ two. two.desk.callers ≡ 2) }
+    ensures first { IfOk result
+        (λ two. IsPassOf two.desk two.first × (two.first.caller ≡ 0)) }
+    ensures second { IfOk result
+        (λ two. IsPassOf two.desk two.second × (two.second.caller ≡ 1)) }
+{
     let mut jobs = Vec::new(alloc);
-    jobs.push(Arc::new(alloc, TickJob::of_tasks(alloc, 1)?)?)?;
-    jobs.push(Arc::new(alloc, TickJob::of_tasks(alloc, 0)?)?)?;
+    jobs.push(Arc::new(alloc, zeroth)?)?;
+    jobs.push(Arc::new(alloc, oneth)?)?;
     let DeskParts { desk, mut passes } = Desk::new(alloc, jobs, 2)?;
     let second = passes.remove(1);
     let first = passes.remove(0);

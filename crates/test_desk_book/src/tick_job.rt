@@ -1,5 +1,5 @@
-// A job of which nothing comes.
-ghost use Rattle.std.specs.Prelude.{◌≡◌, IfSome, slice_get};
+// A job whose tasks count.
+ghost use Rattle.std.specs.Prelude.{◌≡◌, IfOk, IfSome, slice_get};
 ghost use Rattle.std.specs.Arc.{arc_value};
 ghost use Rattle.task_graph.specs.declared.net.TaskRow.{TaskRow};
 ghost use Rattle.run_frame.specs.Meaning.{FitsShape};
@@ -11,12 +11,18 @@ use run_frame::{Answer, Done, FrameRun, Job, JobError, Valued};
 use std::alloc::Global;
 use std::marker::Model;
 use std::sync::Arc;
+use std::sync::atomic::AtomicU64;
+use std::sync::atomic::Ordering::SeqCst;
 use task_graph::{Net, NetBuilder, Shape};
 
-/// A job of a net whose tasks come to 0. A round follows with the same net.
+/// A job of a net whose tasks come to the numbers from 0 on, also over several rounds and runs. A round follows with the
+/// same net, up to a number of rounds after which no memory is there for the next.
 #[derive(Drop)]
 pub struct TickJob {
     net: Arc<Net>,
+    rounds: u64,
+    // The next number.
+    numbers: Arc<AtomicU64>,
 }
 
 impl Model for TickJob {
@@ -29,22 +35,33 @@ impl Model for TickJob {
 }
 
 impl TickJob {
-    /// The job of this net.
-    pub fn new(net: Arc<Net>) -> TickJob
-        ensures { result ≡ arc_value net }
+    /// The job of this net, of which there may be so many rounds.
+    pub fn new(alloc: Global, net: Arc<Net>, rounds: u64) -> Result<TickJob, NoMemory>
+        ensures { IfOk result (λ job. job ≡ arc_value net) }
     {
-        TickJob { net }
+        let numbers = Arc::new(alloc, AtomicU64::new(0))?;
+        Ok(TickJob {
+            net,
+            rounds,
+            numbers,
+        })
     }
 
-    /// The job of a net with so many tasks, and no edge. `Err` comes if an allocation fails, or there are too many tasks.
+    /// The job of a net with so many tasks, and no edge. `Err` comes if an allocation fails, or there are too many
+    /// tasks.
     pub fn of_tasks(alloc: Global, tasks: u32) -> Result<TickJob, NoMemory> {
+        TickJob::of_rounds(alloc, tasks, u64::MAX)
+    }
+
+    /// The same, of which there may be so many rounds.
+    pub fn of_rounds(alloc: Global, tasks: u32, rounds: u64) -> Result<TickJob, NoMemory> {
         let mut builder = NetBuilder::new(alloc);
         for _ in 0..tasks {
             let Ok(_) = builder.task(Shape::Plain, List::new(alloc), List::new(alloc)) else {
                 return Err(NoMemory);
             };
         }
-        Ok(TickJob::new(Arc::new(alloc, builder.finish())?))
+        TickJob::new(alloc, Arc::new(alloc, builder.finish())?, rounds)
     }
 
     // Which successors of a task go on.
@@ -89,7 +106,8 @@ impl Job for TickJob {
     }
 
     fn run(&self, _alloc: Global, task: u32, _ins: &Ins<u64>) -> Result<Done<TickJob>, JobError> {
-        Ok(Done::Value(0, self.answer(task)))
+        let number = self.numbers.fetch_add(1, SeqCst);
+        Ok(Done::Value(number, self.answer(task)))
     }
 
     fn gather(&self, _alloc: Global, _run: &FrameRun<TickJob>) -> Result<u64, JobError> {
@@ -109,8 +127,13 @@ impl Recurs for TickJob {
     ghost may_recur = { IsTickJob };
 
     fn next(&self, _alloc: Global, _run: &FrameRun<TickJob>) -> Result<TickJob, NoMemory> {
+        if self.rounds < 2 {
+            return Err(NoMemory);
+        }
         Ok(TickJob {
             net: Arc::try_clone(&self.net)?,
+            rounds: self.rounds - 1,
+            numbers: Arc::try_clone(&self.numbers)?,
         })
     }
 }

@@ -1,6 +1,6 @@
 use Rattle.std.proofs.Common.{◌∙◌}
 use Rattle.test_desk_book.proofs.TwoPasses.{removed}
-use Rattle.test_desk_book.proofs.tick_desk.two_callers.Goals as goal
+use Rattle.test_desk_book.proofs.tick_desk.callers_of.Goals as goal
 
 pub returns-clause-first : goal.returns-clause-first
 returns-clause-first c =
