@@ -6,7 +6,7 @@
 # It builds the program first, and says the load before and after. It needs python3; run it as `bash bench/async.sh`,
 # from any folder, on a machine with four idle processors.
 set -euo pipefail
-crate=$(cd "$(dirname "${BASH_SOURCE[0]}")/.." && pwd)/crates/bench_async
+crate=$(cd "$(dirname "${BASH_SOURCE[0]}")/.." && pwd)/crates/bench
 (cd "$crate" && rt run > /dev/null)
 
 uptime
