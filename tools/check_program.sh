@@ -1035,7 +1035,7 @@ threads=$(threads_of)
 
 # Random files with pipelines, by 1, 4 and 16 workers, against a slow evaluation.
 cases=$((cases + 1))
-python3 -B tools/pipe_graphs.py "$program" --count 300 --seed 20261201 >"$seen/out" || fault "$(cat "$seen/out")"
+python3 -B "$top/tools/pipe_graphs.py" "$program" --count 300 --seed 20261201 >"$seen/out" || fault "$(cat "$seen/out")"
 
 echo "program: $cases calls, $faults with a difference"
 ((faults == 0))
