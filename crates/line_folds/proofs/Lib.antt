@@ -1,3 +1,4 @@
+pub mod LinesBetween
 pub mod MarkLemmas
 pub mod WordFoldLemmas
 pub mod LineExamples

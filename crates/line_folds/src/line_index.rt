@@ -1,5 +1,5 @@
 // Where the lines of a text begin.
-ghost use Rattle.std.specs.Prelude.{◌≡◌, ◌*◌, ◌≤◌, IfNone, IfOk, IfSome, drop, length};
+ghost use Rattle.std.specs.Prelude.{◌≡◌, ◌*◌, ◌-◌, ◌≤◌, IfNone, IfOk, IfSome, drop, length, take};
 ghost use Rattle.text_ops.specs.Lines.{IsNormal, lines_of};
 ghost use Rattle.text_ops.specs.LineParts.{IsCut};
 ghost use Rattle.line_folds.specs.inside.Marks.{AreLineMarks, mark_step};
@@ -64,6 +64,18 @@ impl<'t> LineIndex<'t> {
         };
         let rest = &self.text[mark..];
         &rest[end_of_first(rest, n % STEP)..]
+    }
+
+    /// The text of the lines numbered `from` to `to`, without the last of these.
+    pub fn lines(&self, from: u64, to: u64) -> &[u8]
+        requires order { from ≤ to }
+        requires within { to ≤ length (lines_of self.now) }
+        ensures normal { IsNormal result.now }
+        ensures lines { lines_of result.now ≡ take (to - from) (drop from (lines_of self.now)) }
+    {
+        let rest = self.from_line(from);
+        let behind = self.from_line(to);
+        &rest[..rest.len() - behind.len()]
     }
 
     // Where the line numbered 1,024 * `k` begins, if the text has it.

@@ -10,7 +10,7 @@ use outside_io::NoMemory;
 use std::alloc::Global;
 use std::marker::Model;
 use std::thread::Threads;
-use text_ops::{Text, WordSearch, end_of_first};
+use text_ops::{Text, WordSearch};
 
 /// The fold of a word over the lines of a text: its value at a line is 1 where the word occurs in it, else 0, and
 /// values are added up. Contracts see it as the word and the text.
@@ -50,9 +50,8 @@ impl<'t> WordFold<'t> {
             (take count (drop first (lines_of self.now.text))) }
         ensures few { length (lines_of self.now.text) ≤ 18446744073709551615 }
     {
-        let rest = self.index.from_line(first);
-        let end = end_of_first(rest, count);
-        self.search.lines_with(&rest[..end])
+        let lines = self.index.lines(first, first + count);
+        self.search.lines_with(lines)
     }
 }
 
@@ -86,8 +85,8 @@ impl<'t> Fold for WordFold<'t> {
     ghost lawful = { word_fold_lawful };
 }
 
-/// In how many lines of a text the word occurs, by several workers, each of which draws chunks of at least `grain` lines.
-/// The empty word occurs in every line, and one with a line end in none.
+/// In how many lines of a text the word occurs, by several workers, each of which draws chunks of at least `grain`
+/// lines. The empty word occurs in every line, and one with a line end in none.
 pub fn count_lines_with<R: Threads + Sync>(
     rt: &R,
     alloc: Global,
