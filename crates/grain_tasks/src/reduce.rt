@@ -165,8 +165,8 @@ fn gather_all<F: Fold>(
     Ok(all)
 }
 
-// So many chunks for each worker let a slow one take fewer. More of them take longer to draw and to join.
-const CHUNKS_FOR_EACH: u64 = 256;
+// So many chunks for each worker let a slow one take fewer. More of them take longer to draw, to begin and to join.
+const CHUNKS_FOR_EACH: u64 = 64;
 
 // How many indices are drawn at once: `grain`, or more where there would be too many chunks.
 fn drawn_grain(count: u64, grain: u64, workers: u32) -> u64
@@ -180,8 +180,8 @@ fn drawn_grain(count: u64, grain: u64, workers: u32) -> u64
 }
 
 /// The fold of the first `count` indices by several workers, each of which draws chunks of at least `grain` indices, and
-/// of more where there would be some hundred chunks for each worker: the plain fold, whatever the grain and the workers
-/// are and however their turns fall.
+/// of more where there would be over 64 chunks for each worker: the plain fold, whatever the grain and the workers are
+/// and however their turns fall.
 pub fn reduce_drawn<R: Threads + Sync, F: Fold + Send + Sync>(
     rt: &R,
     alloc: Global,
