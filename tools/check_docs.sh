@@ -24,7 +24,7 @@ find_each() {
     ((${#found[@]} > 0)) || fault "there is nothing to check: $1"
 }
 
-documents=(README.md docs/LIBRARY.md docs/THEOREM.md docs/PROVED.md docs/ARCHITECTURE.md docs/DEFINITIONS.md docs/FORMATS.md docs/HANDBOOK.md docs/DECISIONS.md docs/TESTING.md)
+documents=(README.md docs/LIBRARY.md docs/THEOREM.md docs/PROVED.md docs/ANSWERS.md docs/ARCHITECTURE.md docs/DEFINITIONS.md docs/FORMATS.md docs/HANDBOOK.md docs/DECISIONS.md docs/TESTING.md)
 for document in "${documents[@]}"; do
     if [[ ! -f $document ]]; then
         fault "$document isn't there"
@@ -101,6 +101,9 @@ python3 -B tools/list_theorem.py --check || fault "docs/THEOREM.md names other d
 
 # Each definition that public clauses cite has a claim, or the tool has the reason why it has none.
 python3 -B tools/list_claims.py --check || fault "tools/list_claims.py finds definitions without a claim, or reasons that aren't needed"
+
+# Each answer of a public call has its cause: a clause of the call, or a test that is there.
+python3 -B tools/list_answers.py --check || fault "docs/ANSWERS.md has other answers, clauses or tests than there are"
 
 # The code in docs/LIBRARY.md is that of crates that the gate proves and runs. The graph files and scripts in docs/HANDBOOK.md
 # are those of examples.

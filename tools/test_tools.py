@@ -1,5 +1,5 @@
 #!/usr/bin/env python3
-"""The tools that users get, on cases with answers: flow-lint, flow-dot, flow-trace and the completion.
+"""The tools that users get, on cases with answers: flow-lint, flow-dot, flow-trace and the completion; and list_answers.
 
 Prints nothing where each answers as it should; else the tests that fail, and ends with status 1.
 """
@@ -17,6 +17,7 @@ import unittest
 import xml.etree.ElementTree
 
 import format_tables
+import list_answers
 from flow_tools import dot, journals, timeline
 from flow_tools.graph_format import OPERATIONS, field_names
 from flow_tools.json_places import JsonError, decoded, lines_of, parse
@@ -299,6 +300,120 @@ class Completion(unittest.TestCase):
         self.assertEqual(self.words("flow", "run", "x", "--workers", "1"), ["1", "16"])
         self.assertEqual(self.words("flow", "run", "x", "--until", ""), [])
         self.assertIn("Makefile", self.words("flow", "run", ""))
+
+
+# A crate with a call of each kind, and a page that has a row for each of its answers.
+SMALL_ROOT = "mod calls;\npub use calls::{Asked, Made, Reads, Small, asks, hands_on, is_open, makes};\n"
+SMALL_CALLS = """
+use outside_io::{Back, NoMemory};
+
+pub enum Asked {
+    /// There is one.
+    Yes(u32),
+    No { why: u8 },
+}
+pub struct Made<T> {
+    pub item: T,
+    pub asked: Asked,
+    pub whole: bool,
+}
+pub trait Reads {
+    fn read(&self) -> Option<u8>
+        ensures found { IsFound result };
+}
+impl<T: Copy> Reads for Small<T> {
+    fn read(&self) -> Option<u8> {
+        None
+    }
+}
+impl<T: Copy> Small<T> {
+    pub fn add(&mut self, item: T) -> Result<(), Back<T>>
+        requires { true }
+        ensures ok { OnOk result ({ self.new } ≡ item) }
+        ensures back { IfErr result (λ back. back.item ≡ item) }
+    {
+        inner(item)
+    }
+    fn hidden(&self) -> Option<u8> {
+        None
+    }
+}
+pub fn asks<F>(f: F) -> Result<Asked, NoMemory>
+where
+    F: Fn(u8) -> u8,
+    ensures { IfOk result IsAsked }
+{
+    f(1)
+}
+pub fn makes() -> Made<u8>
+    ensures whole { result.whole ≡ true }
+{
+    made(1)
+}
+pub fn is_open() -> bool {
+    true
+}
+pub fn hands_on(asked: Asked) -> Asked
+    ensures { result ≡ asked }
+{
+    asked
+}
+"""
+SMALL_TEST = "#[test]\nfn it_is_open(rt: HostRuntime) -> Result<(), Fail> {\n"
+SMALL_PAGE = """
+## `small`
+
+| Call | Answer | Cause |
+|---|---|---|
+| `asks` | `Yes`, `No` | `ensures`: one is there, or none |
+| `asks` | `NoMemory` | Free |
+| `makes` | `asked: Yes`, `asked: No` | Not proved |
+| `makes` | `whole: true` | `whole`: always |
+| `makes` | `whole: false` | Not returned (`whole`) |
+| `Reads::read`, `Small::read` | `Some`, `None` | `found`: as it is held |
+| `is_open` | `true`, `false` | Tested by `it_is_open` |
+
+Refused only if an allocation fails: `Small::add`, which gives the item back (`back`).
+
+Not refused: `hands_on`.
+"""
+# What is put in place of a part of that page, and what is said then.
+CHANGED_PAGES = [
+    ("", "", ""),
+    ("| `asks` | `NoMemory` | Free |\n", "", "asks has no row for NoMemory"),
+    ("| `asks` | `NoMemory` |", "| `asks` | `NoMemory`, `Yes` |", "asks has 2 rows for Yes"),
+    ("| `asks` | `NoMemory` |", "| `asks` | `NoMemory`, `Maybe` |", "asks doesn't answer Maybe"),
+    ("| `asks` | `NoMemory` |", "| `asks`, `hidden` | `NoMemory` |", "hidden isn't a public call"),
+    ("`ensures`: one is", "`given`: one is", "asks has no clause given"),
+    ("returned (`whole`)", "returned (`half`)", "makes has no clause half"),
+    ("`found`: as", "As", "the cause of Some, None of Reads::read, Small::read names no clause"),
+    ("by `it_is_open`", "by `it_is_shut`", "there is no test it_is_shut"),
+    ("back (`back`)", "back (`front`)", "Small::add has no clause front"),
+    (" `Small::add`, which", " `Small::add`, `asks`, which", "asks isn't refused for memory alone"),
+    ("Not refused: `hands_on`", "Not refused: `hands_on`, `asks`", "asks has both a row and a line for NoMemory"),
+    ("Not refused: `hands_on`", "Not refused: `hands_on`, `nobody`", "nobody has no answers to be listed"),
+    ("Not refused: `hands_on`", "Not refused: none", "hands_on has no row for Yes"),
+    ("## `small`", "## `large`", "docs/ANSWERS.md has no table for small"),
+    ("## `small`", "## `large`", "docs/ANSWERS.md has a table for large, which isn't there"),
+    (SMALL_PAGE, "", "docs/ANSWERS.md has no rows"),
+]
+
+
+class Answers(unittest.TestCase):
+    def differences(self, page):
+        with tempfile.TemporaryDirectory() as folder:
+            top = pathlib.Path(folder)
+            for name, text in [("docs/ANSWERS.md", page), ("crates/small/src/lib.rt", SMALL_ROOT),
+                               ("crates/small/src/calls.rt", SMALL_CALLS), ("crates/test_small/src/all.rt", SMALL_TEST)]:
+                (top / name).parent.mkdir(parents=True, exist_ok=True)
+                (top / name).write_text(text)
+            return list(list_answers.differences(top))
+
+    def test_pages(self):
+        for part, other, wanted in CHANGED_PAGES:
+            self.assertIn(part, SMALL_PAGE)
+            found = self.differences(SMALL_PAGE.replace(part, other) if part else SMALL_PAGE)
+            self.assertEqual(any(wanted in line for line in found), wanted != "", f"{wanted}\n{found}")
 
 
 def main():
