@@ -105,6 +105,12 @@ python3 -B tools/list_claims.py --check || fault "tools/list_claims.py finds def
 # Each answer of a public call has its cause: a clause of the call, or a test that is there.
 python3 -B tools/list_answers.py --check || fault "docs/ANSWERS.md has other answers, clauses or tests than there are"
 
+# Each case that a row of its limits names in quotes is one of the program's, or of the files of test_graphs.
+find_each "cases at limits in docs/TESTING.md" < <(sed -n '/^## Limits/,/^## /p' docs/TESTING.md | grep -oE '"[^"]+"' | tr -d '"' | sort -u)
+for case in "${found[@]}"; do
+    grep -qF -- "$case" tools/check_program.sh crates/test_graphs/src/file_cases.rt || fault "docs/TESTING.md names a case \"$case\", which isn't there"
+done
+
 # The code in docs/LIBRARY.md is that of crates that the gate proves and runs. The graph files and scripts in docs/HANDBOOK.md
 # are those of examples.
 python3 -B tools/quoted_code.py docs/LIBRARY.md library_tour async_tasks desk_book grain_tasks run_desk test_async test_grains || fault "docs/LIBRARY.md quotes other code than there is"

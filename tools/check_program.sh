@@ -1,10 +1,10 @@
 #!/usr/bin/env bash
 # Runs the built program on each of the examples, also by 1, 4 and 16 workers and in version 2 of its graph file, on
-# graphs with semaphores and pipelines, also random ones, for rounds and profiles, for lines with a word, on command
-# lines and files that it refuses, on texts of which one can't be read, on outputs that fail and without memory, and
-# compares its exit code, standard output and standard error; and counts the threads of runs by several workers. Prints
-# a line for each difference, and ends with status 1 where there is one. Its one argument is the program; without it
-# that of the last build is run.
+# graphs with semaphores and pipelines, also random ones, for rounds and profiles, for lines with a word, at each limit
+# and one past it, on command lines and files that it refuses, on texts of which one can't be read, on outputs that fail
+# and without memory, and compares its exit code, standard output and standard error; and counts the threads of runs by
+# several workers. Prints a line for each difference, and ends with status 1 where there is one. Its one argument is the
+# program; without it that of the last build is run.
 set -euo pipefail
 top=$(realpath "$(dirname "${BASH_SOURCE[0]}")/..")
 program=$(realpath "${1:-$top/crates/flow/out/flow}")
@@ -181,12 +181,13 @@ refused 3 'flow: bad graph: not JSON' run examples/count-lines/t.txt
 for word in ERROR upload '' nowhere; do
     echo "lines $(grep -cF -- "$word" examples/log-triage/server.log)" >"$seen/wanted_out"
     for workers in 1 4 16; do
-        for grain in 1 3 1000; do
+        for grain in 1 3 1000 1000000; do
             call count "$word" examples/log-triage/server.log --workers "$workers" --grain "$grain"
             compare "the lines with '$word' by $workers workers in chunks of $grain" 0 "$seen/wanted_out" /dev/null
         done
     done
 done
+
 # Each command takes the options that docs/FORMATS.md lists for it, with each value of their ranges, and no other arguments
 # and values: what it doesn't take has code 2, and what it takes another one.
 mkdir "$seen/calls"
@@ -208,8 +209,12 @@ compare 'two rounds' 0 "$seen/wanted_out" /dev/null
 call run graph.json --times 0
 compare 'no round' 0 /dev/null /dev/null
 printf '## round %d\n== b\n2\n' {1..1000} >"$seen/wanted_out"
-call run graph.json --until 3
-compare 'as many rounds as there may be' 0 "$seen/wanted_out" /dev/null
+for workers in 1 4; do
+    call run graph.json --until 3 --workers "$workers"
+    compare "as many rounds as there may be until a word occurs, by $workers workers" 0 "$seen/wanted_out" /dev/null
+    call run graph.json --times 1000 --workers "$workers"
+    compare "as many rounds as there may be by $workers workers" 0 "$seen/wanted_out" /dev/null
+done
 
 # The profile of no round and of as many as there may be, and of a run that is cut short.
 table() {
@@ -549,13 +554,17 @@ spread="$(read_to a '"b"'),$(task b spread '"n":1,"each":{"op":"count"}')"
 (yes x || true) | head -n 65536 >t.txt
 echo "{\"tasks\":[$spread]}" >graph.json
 { echo '== b'; (yes 1 || true) | head -n 65536; } >"$seen/wanted_out"
-call run graph.json
-compare 'a spread of 65536 parts' 0 "$seen/wanted_out" /dev/null
+for workers in 1 4; do
+    call run graph.json --workers "$workers"
+    compare "a spread of 65536 parts by $workers workers" 0 "$seen/wanted_out" /dev/null
+done
 echo x >>t.txt
 printf -- '-- b\n!! fault b: wide 65537\n' >"$seen/wanted_out"
 echo 'flow: fault b: wide 65537' >"$seen/wanted_notes"
-call run graph.json
-compare 'a spread of 65537 parts' 9 "$seen/wanted_out" "$seen/wanted_notes"
+for workers in 1 4; do
+    call run graph.json --workers "$workers"
+    compare "a spread of 65537 parts by $workers workers" 9 "$seen/wanted_out" "$seen/wanted_notes"
+done
 inner='"modules":[{"name":"m","tasks":[{"name":"i","op":"input","to":["s"],"acquire":["u"]},{"name":"s","op":"spread","n":1,"each":{"op":"count"},"acquire":["u"]}],"semaphores":[{"name":"u","max":1}]}]'
 for workers in 1 4 16; do
     echo "{\"version\":2,\"tasks\":[$(read_to a '"m"'),$(task m module '"module":"m"')],${inner//\"max\":1/\"max\":2}}" >graph.json
@@ -725,6 +734,13 @@ reading() {
 refused 5 'flow: text too long brackets.json' run brackets.json
 refused 5 'flow: text too long brackets.json' check brackets.json
 refused 5 'flow: text too long brackets.json' upgrade brackets.json
+echo '{"tasks":[{"name":"a","op":"input","to":["c"]},{"name":"c","op":"ifmore","n":0,"to":["d","c"]},{"name":"d","op":"pass"}]}' >"$seen/loop.json"
+printf -- '-- d\n!! limit 1000000\n' >"$seen/wanted_out"
+echo 'flow: limit 1000000' >"$seen/wanted_notes"
+for workers in 1 4; do
+    call run "$seen/loop.json" --limit 1000000 --workers "$workers"
+    compare "a run that meets the greatest limit by $workers workers" 8 "$seen/wanted_out" "$seen/wanted_notes"
+done
 truncate -s 4194304 brackets.json
 refused 3 'flow: bad graph: not JSON' run brackets.json
 refused 3 'flow: bad graph: not JSON' check brackets.json
@@ -734,14 +750,120 @@ reading folder
 refused 6 'flow: read fault on folder' run graph.json
 reading nowhere.txt
 refused 5 'flow: no text nowhere.txt' run graph.json
+# Files at their limits: what a run prints of them by 1 and by 4 workers, and that a check takes them.
+mkdir "$seen/limits"
+cd "$seen/limits"
+printf 'x\n' >t.txt
+prints_at_limit() {
+    local what=$1 workers
+    for workers in 1 4; do
+        call run graph.json --workers "$workers"
+        compare "$what by $workers workers" 0 "$seen/wanted_out" /dev/null
+    done
+    call check graph.json
+    cases=$((cases + 1))
+    [[ $(cat "$seen/code") == 0 ]] || fault "the check of $what ends with code $(cat "$seen/code")"
+}
+# One past a limit each command that reads a graph file refuses it.
+refuses_past_limit() {
+    refused "$1" "flow: $2" run graph.json
+    refused "$1" "flow: $2" profile graph.json
+    refused "$1" "flow: $2" check graph.json
+    refused "$1" "flow: $2" upgrade graph.json
+    refused "$1" "flow: $2" judge graph.json nowhere.txt
+}
+# So many pieces with commas between them, with a number from 0000 on in place of each `&`.
+pieces() {
+    seq -f '%04g' 0 $(($1 - 1)) | sed "s|.*|$2|" | paste -sd ,
+}
+file_of() {
+    echo "{\"tasks\":[$1],\"modules\":[${2:-}]}" >graph.json
+}
+file_of "$(pieces 10000 '{"name":"t&","op":"input"}')"
+seq -f '== t%04g' 0 9999 >"$seen/wanted_out"
+prints_at_limit 'a graph of 10000 tasks'
+file_of "$(pieces 10001 '{"name":"t&","op":"input"}')"
+refuses_past_limit 3 'bad graph: too many tasks'
+file_of "$(read_to a "$(pieces 100000 '"b"')"),$(task b pass)"
+{ echo '== b'; (yes x || true) | head -n 100000; } >"$seen/wanted_out"
+prints_at_limit 'a graph of 100000 edges'
+file_of "$(read_to a "$(pieces 100001 '"b"')"),$(task b pass)"
+refuses_past_limit 3 'bad graph: too many edges'
+seq -f '%04g' 0 1024 | split -a 4 -d -l 1 - n
+file_of "$(pieces 1024 '{"name":"t&","op":"read","text":"n&"}')"
+seq -f '%04g' 0 1023 | sed 's/.*/== t&\n&/' >"$seen/wanted_out"
+prints_at_limit 'a graph of 1024 texts'
+file_of "$(pieces 1025 '{"name":"t&","op":"read","text":"n&"}')"
+refuses_past_limit 3 'bad graph: too many texts'
+module_of='{"name":"m&","tasks":[{"name":"i","op":"input"}]}'
+file_of "$(pieces 64 '{"name":"t&","op":"module","module":"m&"}')" "$(pieces 64 "$module_of")"
+seq -f '== t%04g' 0 63 >"$seen/wanted_out"
+prints_at_limit 'a file of 64 modules'
+file_of "$(pieces 64 '{"name":"t&","op":"module","module":"m&"}')" "$(pieces 65 "$module_of")"
+refuses_past_limit 3 'bad graph: too many modules'
+# Modules of which each runs the next one, up to a last one.
+chain_of() {
+    local last=$(($1 - 1)) k
+    for ((k = 0; k < last; k++)); do
+        echo "{\"name\":\"m$k\",\"tasks\":[$(task i input '"to":["t"]'),$(task t module "\"module\":\"m$((k + 1))\"")]}"
+    done | paste -sd ,
+    echo ",{\"name\":\"m$last\",\"tasks\":[$(task i input)]}"
+}
+file_of "$(read_to a '"m"'),$(task m module '"module":"m0"')" "$(chain_of 8)"
+printf '== m\nx\n' >"$seen/wanted_out"
+prints_at_limit 'modules that nest 8 deep'
+file_of "$(read_to a '"m"'),$(task m module '"module":"m0"')" "$(chain_of 9)"
+refuses_past_limit 3 'bad graph: too many depth'
+# A graph file of as many bytes as are read, and of one more.
+printf '%-4194304s' "{\"tasks\":[$(read_to a '"b"'),$(task b pass)]}" >graph.json
+printf '== b\nx\n' >"$seen/wanted_out"
+prints_at_limit 'a graph file of 4194304 bytes'
+printf ' ' >>graph.json
+refuses_past_limit 5 'text too long graph.json'
+# A text of as many bytes as are read has a line without an end: with that it is a value of as many bytes as there may be.
+# With another line it is one byte too long.
+head -c 16777215 /dev/zero | tr '\0' x >t.txt
+file_of "$(read_to a '"b"'),$(task b pass '"to":["c"]'),$(task c count)"
+printf '== c\n1\n' >"$seen/wanted_out"
+prints_at_limit 'a text of 16777215 bytes'
+counts_lines="{\"name\":\"m\",\"tasks\":[$(task i input '"to":["c"]'),$(task c count)]}"
+file_of "$(read_to a '"b"'),$(task b module '"module":"m"')" "$counts_lines"
+printf '== b\n1\n' >"$seen/wanted_out"
+prints_at_limit 'a text of 16777216 bytes for a module'
+printf '\n' >end.txt
+both="$(read_to a '"b"'),$(task e read '"text":"end.txt","to":["b"]')"
+printf -- '-- b\n!! fault b: long 16777217\n' >"$seen/wanted_out"
+echo 'flow: fault b: long 16777217' >"$seen/wanted_notes"
+for workers in 1 4; do
+    file_of "$both,$(task b pass)"
+    call run graph.json --workers "$workers"
+    compare "a value of 16777217 bytes by $workers workers" 9 "$seen/wanted_out" "$seen/wanted_notes"
+    file_of "$both,$(task b module '"module":"m"')" "$counts_lines"
+    call run graph.json --workers "$workers"
+    compare "a text of 16777217 bytes for a module by $workers workers" 9 "$seen/wanted_out" "$seen/wanted_notes"
+    echo 'lines 1' >"$seen/wanted_count"
+    call count x t.txt --workers "$workers"
+    compare "the lines of a text of 16777215 bytes by $workers workers" 0 "$seen/wanted_count" /dev/null
+done
+printf x >>t.txt
+refused 5 'flow: text too long t.txt' run graph.json
+refused 5 'flow: text too long t.txt' profile graph.json
+refused 5 'flow: text too long t.txt' count x t.txt
+cd "$top"
 
-# A run that is cut short by its limit.
+
+# A run of as many starts as its limit, one of a start more, and one that goes round until the greatest limit.
 cp "$top/examples/count-lines/t.txt" .
-printf -- '-- b\n!! limit 1\n' >"$seen/wanted_out"
-echo 'flow: limit 1' >"$seen/wanted_notes"
-call run "$top/examples/count-lines/graph.json" --limit 1
-compare 'a run that meets its limit' 8 "$seen/wanted_out" "$seen/wanted_notes"
-call run --limit=1 "$top/examples/count-lines/graph.json"
+for workers in 1 4; do
+    printf '== b\n2\n' >"$seen/wanted_out"
+    call run "$top/$count" --limit 2 --workers "$workers"
+    compare "a run of as many starts as its limit by $workers workers" 0 "$seen/wanted_out" /dev/null
+    printf -- '-- b\n!! limit 1\n' >"$seen/wanted_out"
+    echo 'flow: limit 1' >"$seen/wanted_notes"
+    call run "$top/$count" --limit 1 --workers "$workers"
+    compare "a run that meets its limit by $workers workers" 8 "$seen/wanted_out" "$seen/wanted_notes"
+done
+call run --limit=1 "$top/$count"
 compare 'a run that meets its limit' 8 "$seen/wanted_out" "$seen/wanted_notes"
 
 # A text for which there is no memory.
