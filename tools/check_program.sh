@@ -302,17 +302,6 @@ refused 2 'flow: bad words' judge graph.json whole.txt --journal
 refused 2 'flow: bad words' judge graph.json whole.txt --limit 1000001
 refused 2 'flow: bad words' run graph.json --journal=yes
 refused 2 'flow: bad words' run graph.json --journal --journal
-# An output that fails: a journal that breaks no rule isn't done, and one that breaks a rule is told so.
-on_full_device() {
-    local code=0
-    "$program" judge graph.json "$1" >/dev/full 2>"$seen/notes" || code=$?
-    : >"$seen/out"
-    echo "$code" >"$seen/code"
-    echo "$3" >"$seen/wanted_notes"
-    compare "the judgement of $1 on a full device" "$2" /dev/null "$seen/wanted_notes"
-}
-on_full_device whole.txt 7 'flow: write fault'
-on_full_device exchanged.txt 11 'flow: not legal at 1'
 cd "$top"
 
 # The check of a graph: its findings, with code 0 also where there are some. It reads no text that the graph names.
@@ -389,14 +378,8 @@ refused 3 'flow: bad graph: bad field version in file' upgrade graph.json
 refused 5 'flow: no text nowhere.json' upgrade nowhere.json
 mkdir folder
 refused 6 'flow: read fault on folder' upgrade folder
-code=0
-"$program" upgrade "$top/$count" >/dev/full 2>"$seen/notes" || code=$?
-: >"$seen/out"
-echo "$code" >"$seen/code"
-echo 'flow: write fault' >"$seen/wanted_notes"
-compare 'an upgrade on a full device' 7 /dev/null "$seen/wanted_notes"
 # Generated graphs by 1, 4 and 16 workers: what the smallest and the greatest one print, which a program over another
-# runtime prints too (bench/peers), and an output that fails.
+# runtime prints too (bench/peers).
 for workers in 1 4 16; do
     printf 'tasks 17\nstarts 395\ninner starts 601\nsum lines 200\ndone lines 10\npipe lines 200\n' >"$seen/wanted_out"
     call generate 1 --workers "$workers"
@@ -405,12 +388,6 @@ for workers in 1 4 16; do
     printf 'tasks 9007\nstarts 9385\ninner starts 601\nsum lines 9\ndone lines 10\npipe lines 200\n' >"$seen/wanted_out"
     compare "a generated graph of 900 layers by $workers" 0 "$seen/wanted_out" /dev/null
 done
-code=0
-"$program" generate 2 >/dev/full 2>"$seen/notes" || code=$?
-: >"$seen/out"
-echo "$code" >"$seen/code"
-echo 'flow: write fault' >"$seen/wanted_notes"
-compare 'a generated graph on a full device' 7 /dev/null "$seen/wanted_notes"
 # As many semaphores as there may be, and one more.
 semaphores() {
     seq "$1" | sed 's/.*/{"name":"s&","max":1}/' | paste -sd ,
@@ -734,13 +711,6 @@ reading() {
 refused 5 'flow: text too long brackets.json' run brackets.json
 refused 5 'flow: text too long brackets.json' check brackets.json
 refused 5 'flow: text too long brackets.json' upgrade brackets.json
-echo '{"tasks":[{"name":"a","op":"input","to":["c"]},{"name":"c","op":"ifmore","n":0,"to":["d","c"]},{"name":"d","op":"pass"}]}' >"$seen/loop.json"
-printf -- '-- d\n!! limit 1000000\n' >"$seen/wanted_out"
-echo 'flow: limit 1000000' >"$seen/wanted_notes"
-for workers in 1 4; do
-    call run "$seen/loop.json" --limit 1000000 --workers "$workers"
-    compare "a run that meets the greatest limit by $workers workers" 8 "$seen/wanted_out" "$seen/wanted_notes"
-done
 truncate -s 4194304 brackets.json
 refused 3 'flow: bad graph: not JSON' run brackets.json
 refused 3 'flow: bad graph: not JSON' check brackets.json
@@ -750,6 +720,36 @@ reading folder
 refused 6 'flow: read fault on folder' run graph.json
 reading nowhere.txt
 refused 5 'flow: no text nowhere.txt' run graph.json
+
+# A run of as many starts as its limit, one of a start more, and one that goes round until the greatest limit.
+cp "$top/examples/count-lines/t.txt" .
+for workers in 1 4; do
+    printf '== b\n2\n' >"$seen/wanted_out"
+    call run "$top/$count" --limit 2 --workers "$workers"
+    compare "a run of as many starts as its limit by $workers workers" 0 "$seen/wanted_out" /dev/null
+    printf -- '-- b\n!! limit 1\n' >"$seen/wanted_out"
+    echo 'flow: limit 1' >"$seen/wanted_notes"
+    call run "$top/$count" --limit 1 --workers "$workers"
+    compare "a run that meets its limit by $workers workers" 8 "$seen/wanted_out" "$seen/wanted_notes"
+done
+call run --limit=1 "$top/$count"
+compare 'a run that meets its limit' 8 "$seen/wanted_out" "$seen/wanted_notes"
+echo '{"tasks":[{"name":"a","op":"input","to":["c"]},{"name":"c","op":"ifmore","n":0,"to":["d","c"]},{"name":"d","op":"pass"}]}' >"$seen/loop.json"
+printf -- '-- d\n!! limit 1000000\n' >"$seen/wanted_out"
+echo 'flow: limit 1000000' >"$seen/wanted_notes"
+for workers in 1 4; do
+    call run "$seen/loop.json" --limit 1000000 --workers "$workers"
+    compare "a run that meets the greatest limit by $workers workers" 8 "$seen/wanted_out" "$seen/wanted_notes"
+done
+
+# A text for which there is no memory.
+truncate -s 16777215 long.txt
+reading long.txt
+memory=16384
+refused 13 'flow: no memory' run graph.json
+memory=unlimited
+cd "$top"
+
 # Files at their limits: what a run prints of them by 1 and by 4 workers, and that a check takes them.
 mkdir "$seen/limits"
 cd "$seen/limits"
@@ -849,29 +849,6 @@ printf x >>t.txt
 refused 5 'flow: text too long t.txt' run graph.json
 refused 5 'flow: text too long t.txt' profile graph.json
 refused 5 'flow: text too long t.txt' count x t.txt
-cd "$top"
-
-
-# A run of as many starts as its limit, one of a start more, and one that goes round until the greatest limit.
-cp "$top/examples/count-lines/t.txt" .
-for workers in 1 4; do
-    printf '== b\n2\n' >"$seen/wanted_out"
-    call run "$top/$count" --limit 2 --workers "$workers"
-    compare "a run of as many starts as its limit by $workers workers" 0 "$seen/wanted_out" /dev/null
-    printf -- '-- b\n!! limit 1\n' >"$seen/wanted_out"
-    echo 'flow: limit 1' >"$seen/wanted_notes"
-    call run "$top/$count" --limit 1 --workers "$workers"
-    compare "a run that meets its limit by $workers workers" 8 "$seen/wanted_out" "$seen/wanted_notes"
-done
-call run --limit=1 "$top/$count"
-compare 'a run that meets its limit' 8 "$seen/wanted_out" "$seen/wanted_notes"
-
-# A text for which there is no memory.
-truncate -s 16777215 long.txt
-reading long.txt
-memory=16384
-refused 13 'flow: no memory' run graph.json
-memory=unlimited
 cd "$top"
 
 # Two and three texts of which one can't be read, at each place, by 1 and by 4 workers: the call stops at the first of them,
@@ -1038,23 +1015,23 @@ refused 3 'flow: bad graph: not JSON' run graph.json
 behind=()
 cd "$top"
 
-# A call of this command whose output took no more than these first bytes of what it is to print.
-command=run
+# A call of these words whose output took no more than these first bytes of what it is to print.
+words=(run graph.json)
 report=/dev/null
 cut_short() {
     local what=$1 size=$2
     head -c "$size" "$report" >"$seen/wanted_out"
     echo 'flow: write fault' >"$seen/wanted_notes"
-    compare "a call with $what" 7 "$seen/wanted_out" "$seen/wanted_notes"
+    compare "'flow ${words[*]}' with $what" 7 "$seen/wanted_out" "$seen/wanted_notes"
 }
 
-# Calls the program on graph.json with this output, of at most so many kilobytes.
+# Calls the program with this output, of at most so many kilobytes.
 put_on() {
     local code=0
     (
         trap '' XFSZ
         ulimit -f "${2:-unlimited}"
-        exec "$program" "$command" graph.json >"$1" 2>"$seen/notes"
+        exec "$program" "${words[@]}" >"$1" 2>"$seen/notes"
     ) || code=$?
     echo "$code" >"$seen/code"
 }
@@ -1064,7 +1041,7 @@ pipe_of() {
     (
         if (($1 == 0)); then sleep 0.3; fi
         code=0
-        "$program" "$command" graph.json 2>"$seen/notes" || code=$?
+        "$program" "${words[@]}" 2>"$seen/notes" || code=$?
         echo "$code" >"$seen/code"
     ) | head -c "$1" >"$seen/out"
 }
@@ -1072,34 +1049,88 @@ pipe_of() {
 # The same with a closed output.
 put_nowhere() {
     local code=0
-    "$program" "$command" graph.json >&- 2>"$seen/notes" || code=$?
+    "$program" "${words[@]}" >&- 2>"$seen/notes" || code=$?
     : >"$seen/out"
     echo "$code" >"$seen/code"
 }
 
-# A report, a profile and findings that fit into one write.
-fits_into_one_write() {
-    report=$1
+# An output that fails at the first write, which is the only one of what is short.
+fails_at_first_write() {
     put_on /dev/full
     : >"$seen/out"
-    cut_short "$command on a full device" 0
+    cut_short 'a device that is full' 0
     put_nowhere
-    cut_short "$command on a closed output" 0
+    cut_short 'an output that is closed' 0
     pipe_of 0
-    cut_short "$command on a pipe whose reader has gone" 0
+    cut_short 'a pipe whose reader has gone' 0
+}
+fits_into_one_write() {
+    report=$1
+    shift
+    words=("$@")
+    fails_at_first_write
 }
 cd "$top/examples/count-lines"
-fits_into_one_write expected.txt
-command=profile
-fits_into_one_write profile.txt
+echo complete >"$seen/verdict"
+echo 'lines 1' >"$seen/count"
+fits_into_one_write expected.txt run graph.json
+fits_into_one_write profile.txt profile graph.json
+cd "$seen/journals"
+fits_into_one_write "$seen/verdict" judge graph.json whole.txt
 cd "$top/examples/ticket-review"
-command=check
-fits_into_one_write findings.txt
-command=run
+fits_into_one_write findings.txt check graph.json
+cd "$seen/calls"
+printf '%s' "$(upgraded '' '')" >"$seen/small.json"
+fits_into_one_write "$seen/small.json" upgrade FILE
+printf 'tasks 17\nstarts 395\ninner starts 601\nsum lines 200\ndone lines 10\npipe lines 200\n' >"$seen/summary"
+fits_into_one_write "$seen/summary" generate 1
+fits_into_one_write "$seen/count" count tasks FILE
 
-# A report of 200 KiB, in four writes: 20 KiB, 80 KiB, a line, and 100 KiB.
+# What is told besides stands though the output fails: that a journal breaks a rule, or a run was cut short.
+cd "$seen/journals"
+told_on_full_device() {
+    local code=$1 notes=$2
+    shift 2
+    words=("$@")
+    put_on /dev/full
+    : >"$seen/out"
+    echo "$notes" >"$seen/wanted_notes"
+    compare "'flow $*' on a full device" "$code" /dev/null "$seen/wanted_notes"
+}
+cp "$top/examples/count-lines/t.txt" .
+told_on_full_device 11 'flow: not legal at 1' judge graph.json exchanged.txt
+told_on_full_device 8 'flow: limit 1' run graph.json --limit 1
+told_on_full_device 8 'flow: limit 1' run graph.json --limit 1 --journal
+told_on_full_device 8 'flow: limit 1' profile graph.json --limit 1
+
+# Outputs of more than 200 KiB, in several writes of 64 KiB; that of an upgrade is one piece.
+takes_several_writes() {
+    words=("$@")
+    report=$seen/whole
+    put_on "$report"
+    local size
+    size=$(stat -c %s "$report")
+    cases=$((cases + 1))
+    [[ $(cat "$seen/code") == 0 ]] && ((size > 200 * 1024)) || fault "'flow $*' ends with code $(cat "$seen/code") and prints $size bytes"
+    fails_at_first_write
+    put_on "$seen/out" 100
+    cut_short 'a file that is full in a middle write' $((100 * 1024))
+    put_on "$seen/out" $(((size - 1) / 1024))
+    cut_short 'a file that is full in the last write' $(((size - 1) / 1024 * 1024))
+    pipe_of 100000
+    cut_short 'a pipe whose reader goes in a middle write' 100000
+}
 mkdir "$seen/report"
 cd "$seen/report"
+file_of "$(pieces 8000 '{"name":"t&","op":"input"}')"
+takes_several_writes run graph.json --journal --workers 1
+takes_several_writes run graph.json --times 4
+takes_several_writes profile graph.json
+takes_several_writes upgrade graph.json
+file_of "$(pieces 8000 '{"name":"t&","op":"pass","to":["t&"]}')"
+takes_several_writes check graph.json
+
+# A report of 200 KiB, in four writes: 20 KiB, 80 KiB, a line, and 100 KiB.
 for size in 20 80 100; do
     head -c $((size * 1024)) /dev/zero | tr '\0' x | fold -w 63 >"$size.txt"
     echo >>"$size.txt"
@@ -1110,30 +1141,20 @@ cat >graph.json <<'GRAPH'
 {"name":"b","op":"read","text":"80.txt"},
 {"name":"c","op":"read","text":"100.txt"}]}
 GRAPH
-report=$seen/report/whole.txt
 {
     echo '== a' && cat 20.txt && echo '== b' && cat 80.txt && echo '== c' && cat 100.txt
-} >"$report"
-put_on "$seen/out"
-compare 'a report of 200 KiB' 0 "$report" /dev/null
-put_on /dev/full
-: >"$seen/out"
-cut_short 'a device that is full at the first write' 0
-put_on "$seen/out" 50
-cut_short 'a file that is full in a middle write' $((50 * 1024))
+} >"$seen/report/whole.txt"
+takes_several_writes run graph.json
+cmp -s "$report" whole.txt || fault 'a report of 200 KiB has other bytes than are wanted'
 put_on "$seen/out" 150
 cut_short 'a file that is full in the last write' $((150 * 1024))
-put_nowhere
-cut_short 'an output that is closed at the first write' 0
-pipe_of 0
-cut_short 'a pipe whose reader goes at the first write' 0
 pipe_of 25000
-cut_short 'a pipe whose reader goes in a middle write' 25000
+cut_short 'a pipe whose reader goes in the second write' 25000
 pipe_of 110000
 cut_short 'a pipe whose reader goes in the last write' 110000
+cd "$top"
 
 # The threads of a run by so many workers that goes round until its limit: the most that are seen while it runs.
-echo '{"tasks":[{"name":"a","op":"input","to":["c"]},{"name":"c","op":"ifmore","n":0,"to":["d","c"]},{"name":"d","op":"pass"}]}' >"$seen/loop.json"
 threads_of() {
     local most=0 now pid
     "$program" run "$seen/loop.json" --limit 1000000 "${@}" >/dev/null 2>&1 &
