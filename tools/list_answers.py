@@ -6,7 +6,7 @@ of the struct that it returns. Prints the calls of the crates that are named, wi
 clauses (`ensures` stands for one without a name). With --check it prints a line for each answer without a row, for each
 row of a call or an answer that isn't there, for each clause that a row names and the call hasn't, for each test that
 isn't there, and for each crate that has no table and that OMITTED has no reason for. A cause begins with the clauses,
-or has them in parentheses.
+or has them in parentheses. With --unproved it prints the rows in which some of the cause is not proved.
 """
 import collections
 import re
@@ -366,6 +366,14 @@ def differences(top):
         yield f"{PAGE} has no rows"
 
 
+def unproved(top):
+    """A line for each row in which some of the cause is not proved, or is tested alone."""
+    for name, table in tables_in((top / PAGE).read_text()).items():
+        for calls, answers, cause in table.rows:
+            if "Not proved" in cause or TESTS.search(cause):
+                yield f"{name}: {', '.join(calls)}: {', '.join(answers)}: {cause}"
+
+
 def main():
     wanted = [word for word in sys.argv[1:] if not word.startswith("--")]
     if "--check" in sys.argv[1:]:
@@ -373,6 +381,9 @@ def main():
         for line in found:
             print(line, file=sys.stderr)
         sys.exit(1 if found else 0)
+    if "--unproved" in sys.argv[1:]:
+        print("\n".join(unproved(TOP)))
+        return
     crates = crates_in(TOP)
     for name in wanted or sorted(crates):
         print(f"{name}:")
