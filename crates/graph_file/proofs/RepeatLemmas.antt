@@ -51,20 +51,20 @@ module _ (scope : Scope) (version number : ℕ) (new : Bool) (task : TaskNames) 
   once-put (Ok done) took put = rw (so, ← at, ← takes_are, ← puts_are) (rw (took, put) refl)
   once-put (Err e) took put = λ sure. rw (so, ← at, ← takes_are, ← puts_are) (rw (took, put sure) refl)
 
+pub task-within : (tasks : List FileTask) (i : ℕ) → i < length tasks → i < length (names_now tasks)
+task-within tasks i within = rw (length-map tasks (λ (t : FileTask). t.names.name.now)) within
+
+pub task-is : (tasks : List FileTask) (i : ℕ) (task : FileTask) → i < length tasks → task ≡ get_or tasks i task → task.names.name.now ≡ get_or (names_now tasks) i task.names.name.now
+task-is tasks i task within is = ap (λ (t : FileTask). t.names.name.now) is ∙ sym (get_or-map (λ (t : FileTask). t.names.name.now) tasks i task task.names.name.now within)
+
 module _ (scope : Scope) (version : ℕ) (tasks : List FileTask) (i : ℕ) (task : FileTask) (new : Bool) (within : i < length tasks) (is : task ≡ get_or tasks i task)
     (noted : new ≡ not (list_any (bytes_eq task.names.name.now) (take i (names_now tasks)))) where
-  pub name-within : i < length (names_now tasks)
-  name-within = rw (length-map tasks (λ (t : FileTask). t.names.name.now)) within
-
-  pub name-is : task.names.name.now ≡ get_or (names_now tasks) i task.names.name.now
-  name-is = ap (λ (t : FileTask). t.names.name.now) is ∙ sym (get_or-map (λ (t : FileTask). t.names.name.now) tasks i task task.names.name.now within)
-
   step-is : add_task_name scope version (take i (names_now tasks)) (file_names_of task) ≡ (once_or scope version i new (file_names_of task) >>= λ k. Ok (take i (names_now tasks) ++ task.names.name.now ∷ []))
-  step-is = add_task_name-once scope version (take i (names_now tasks)) new i (file_names_of task) noted (length-take-le i (names_now tasks) (omega (arith, name-within)))
+  step-is = add_task_name-once scope version (take i (names_now tasks)) new i (file_names_of task) noted (length-take-le i (names_now tasks) (omega (arith, task-within tasks i within)))
 
   pub tasks-more : once_or scope version i new (file_names_of task) ≡ Ok i → GoesOn file_names_of (add_task_name scope version) [] tasks i (take i (names_now tasks)) → GoesOn file_names_of (add_task_name scope version) [] tasks (i + 1) (take (i + 1) (names_now tasks))
   tasks-more once so_far =
-      let longer : take (i + 1) (names_now tasks) ≡ take i (names_now tasks) ++ task.names.name.now ∷ [] = take_more (names_now tasks) i task.names.name.now name-within ∙ rw (← name-is) refl in
+      let longer : take (i + 1) (names_now tasks) ≡ take i (names_now tasks) ++ task.names.name.now ∷ [] = take_more (names_now tasks) i task.names.name.now (task-within tasks i within) ∙ rw (← task-is tasks i task within is) refl in
       let step : add_task_name scope version (take i (names_now tasks)) (file_names_of task) ≡ Ok (take (i + 1) (names_now tasks)) = step-is ∙ rw (once, longer) refl in
       GoesOn-more file_names_of (add_task_name scope version) [] tasks i task (take i (names_now tasks)) (take (i + 1) (names_now tasks)) within is step so_far
 

@@ -1,7 +1,7 @@
 // The places of names.
-ghost use Rattle.std.specs.Prelude.{◌≡◌, [], IfOk, OnOk, None, is_none, map};
+ghost use Rattle.std.specs.Prelude.{◌≡◌, [], true, IfOk, OnOk, None, is_none, map};
 ghost use Rattle.graph_file.specs.PlanText.{number_among, with_text};
-ghost use Rattle.graph_file.specs.inside.Lookups.{HasPlaces, IsIndex, KeepsPlace, place_in};
+ghost use Rattle.graph_file.specs.inside.Lookups.{HasPlaces, IsIndex, KeepsPlace, StandOnce, place_in};
 ghost use Rattle.graph_drafts.specs.inside.Reading.{strings};
 
 use graph_drafts::{Draft, FileTask};
@@ -16,11 +16,25 @@ pub(crate) type Places<'n> = HashMap<&'n [u8], usize>;
 pub(crate) fn places_of<'n>(alloc: Global, names: &[&'n str]) -> Result<Places<'n>, NoMemory>
     ensures { IfOk result (λ places. HasPlaces places (strings names.now)) }
 {
-    let mut places = HashMap::with_capacity(alloc, names.len())?;
-    for (place, name) in names.iter().enumerate() {
-        let _new = keep_place(&mut places, name.as_bytes(), place)?;
-    }
+    let (places, _) = places_and_once(alloc, names)?;
     Ok(places)
+}
+
+/// The same, and whether each name stands once.
+pub(crate) fn places_and_once<'n>(
+    alloc: Global,
+    names: &[&'n str],
+) -> Result<(Places<'n>, bool), NoMemory>
+    ensures places { IfOk result (λ found. HasPlaces found.0 (strings names.now)) }
+    ensures once { IfOk result (λ found. found.1 ≡ true → StandOnce (strings names.now)) }
+{
+    let mut places = HashMap::with_capacity(alloc, names.len())?;
+    let mut once = true;
+    for (place, name) in names.iter().enumerate() {
+        let new = keep_place(&mut places, name.as_bytes(), place)?;
+        once = once & new;
+    }
+    Ok((places, once))
 }
 
 /// Names, and the first place of each.

@@ -1,12 +1,12 @@
 // The numbers of what tasks name.
-ghost use Rattle.std.specs.Prelude.{◌≡◌, ◌++◌, ◌∷◌, [], codes, map, OnOk};
+ghost use Rattle.std.specs.Prelude.{◌≡◌, ◌++◌, ◌∷◌, [], true, codes, map, IfOk, OnOk};
 ghost use Rattle.graph_file.specs.PlanText.{add_graph_numbers, add_numbers, file_numbers, graph_numbers, names_of_modules, runs_one_of, task_names};
 ghost use Rattle.graph_drafts.specs.Steps.{passed, walk};
-ghost use Rattle.graph_file.specs.inside.Lookups.{HasPlaces, IsIndex};
+ghost use Rattle.graph_file.specs.inside.Lookups.{HasPlaces, IsIndex, StandOnce};
 ghost use Rattle.graph_drafts.specs.inside.Reading.{Leads, Reads, ReadsAs, draft_rows, file_op_row, file_rows, strings, task_text};
 ghost use Rattle.graph_file.specs.inside.Reader.{numbers_rows, put_place};
 
-use crate::lookups::{Index, Places, names_of_tasks, places_of};
+use crate::lookups::{Index, Places, names_of_tasks, places_and_once, places_of};
 use graph_drafts::{
     Draft, FileDraft, FileOp, FileTask, GraphError, no_such_name, puts_field, takes_field,
     task_spot,
@@ -29,6 +29,8 @@ pub struct TaskNumbers {
 pub(crate) struct Numbers {
     pub top: List<TaskNumbers>,
     pub modules: Vec<List<TaskNumbers>>,
+    /// Whether each task of the top graph is known to have a name of its own.
+    pub once: bool,
 }
 
 /// The numbers of what each task of a file names.
@@ -39,14 +41,17 @@ pub(crate) fn numbers_of(
 ) -> Result<Numbers, GraphError>
     requires index { IsIndex modules.now }
     requires modules { strings modules.now.names ≡ names_of_modules (file_rows file.now) }
-    ensures { ReadsAs numbers_rows result (file_numbers (file_rows file.now)) }
+    ensures numbers { ReadsAs numbers_rows result (file_numbers (file_rows file.now)) }
+    ensures once { IfOk result (λ numbers. numbers.once ≡ true
+        → StandOnce (task_names (file_rows file.now).top)) }
 {
-    let top = numbers_in(alloc, &file.top, modules)?;
+    let (top, once) = numbers_in(alloc, &file.top, modules)?;
     let mut numbers = Vec::new(alloc);
     add_graphs(alloc, file.modules.as_slice(), modules, &mut numbers)?;
     Ok(Numbers {
         top,
         modules: numbers,
+        once,
     })
 }
 
@@ -81,7 +86,7 @@ fn add_graph(
         (add_graph_numbers (strings modules.now.names) numbers.old.items
         (draft_rows draft.now)) }
 {
-    let found = numbers_in(alloc, draft, modules)?;
+    let (found, _) = numbers_in(alloc, draft, modules)?;
     Ok(put_numbers(found, numbers)?)
 }
 
@@ -95,22 +100,24 @@ fn put_numbers(
     Ok(())
 }
 
-// The numbers of what each task of a graph names.
+// The numbers of what each task of a graph names, and whether each task is known to have a name of its own.
 fn numbers_in(
     alloc: Global,
     draft: &Draft<'_>,
     modules: &Index<'_>,
-) -> Result<List<TaskNumbers>, GraphError>
+) -> Result<(List<TaskNumbers>, bool), GraphError>
     requires { IsIndex modules.now }
-    ensures { ReadsAs (λ numbers. numbers) result
+    ensures numbers { ReadsAs (λ found. found.0) result
         (graph_numbers (strings modules.now.names) (draft_rows draft.now)) }
+    ensures once { IfOk result (λ found. found.1 ≡ true
+        → StandOnce (task_names (draft_rows draft.now))) }
 {
     let names = names_of_tasks(alloc, draft.tasks.as_slice())?;
-    let tasks = places_of(alloc, names.as_slice())?;
+    let (tasks, once) = places_and_once(alloc, names.as_slice())?;
     let sems = places_of(alloc, draft.sem_names.as_slice())?;
     let mut numbers = List::with_room(alloc, draft.tasks.len())?;
     add_all(alloc, draft, modules, &tasks, &sems, &mut numbers)?;
-    Ok(numbers)
+    Ok((numbers, once))
 }
 
 fn add_all(

@@ -1,12 +1,13 @@
 // Names that stand twice.
-ghost use Rattle.std.specs.Prelude.{◌≡◌, ℕ, [], IfOk, codes, map};
+ghost use Rattle.std.specs.Prelude.{◌≡◌, ◌||◌, ℕ, [], true, false, is_none, IfOk, OnOk, codes, map};
 ghost use Rattle.graph_drafts.specs.Fields.{sem_spot};
 ghost use Rattle.graph_file.specs.PlanText.{add_module_name, add_name, add_task_name, file_names, graph_names, names_of_modules, task_names};
 ghost use Rattle.graph_drafts.specs.Steps.{walk};
 ghost use Rattle.graph_drafts.specs.inside.Reading.{Leads, draft_rows, file_rows, named_task, strings};
+ghost use Rattle.graph_file.specs.inside.Lookups.{KeepsPlace, StandOnce, place_in};
 ghost use Rattle.graph_file.specs.inside.Reader.{once_module, once_or, unless_repeated};
 
-use crate::lookups::keep_place;
+use crate::lookups::{Places, keep_place};
 use graph_drafts::{
     Draft, FileDraft, FileTask, GraphError, NamedTask, Scope, graph_spot, puts_field, repeated,
     sem_spot, takes_field, task_spot,
@@ -17,12 +18,13 @@ use std::alloc::Global;
 use std::collections::HashMap;
 
 /// That no module, and no semaphore or task of a graph, has the name of an earlier one, and that no task has a
-/// semaphore twice in a list.
-pub(crate) fn check_names(alloc: Global, file: &FileDraft<'_>) -> Result<(), GraphError>
+/// semaphore twice in a list. With `once` each name of a task of the top graph is known to stand once.
+pub(crate) fn check_names(alloc: Global, file: &FileDraft<'_>, once: bool) -> Result<(), GraphError>
+    requires { once ≡ true → StandOnce (task_names (file_rows file.now).top) }
     ensures { Leads result (names_of_modules (file_rows file.now))
         (file_names (file_rows file.now)) }
 {
-    if let Err(refusal) = check_graph(alloc, &file.top) {
+    if let Err(refusal) = check_graph(alloc, &file.top, once) {
         return Err(refusal);
     }
     check_modules(alloc, file.modules.as_slice())
@@ -55,17 +57,25 @@ fn check_module(
     if !new {
         return Err(repeated(alloc, graph_spot(Scope::Module(number)), "name"));
     }
-    check_graph(alloc, draft)
+    check_graph(alloc, draft, false)
 }
 
-// That no semaphore and no task of a graph has the name of an earlier one, or a semaphore twice in a list.
-fn check_graph(alloc: Global, draft: &Draft<'_>) -> Result<(), GraphError>
+// That no semaphore and no task of a graph has the name of an earlier one, or a semaphore twice in a list. With `once`
+// each name of a task is known to stand once.
+fn check_graph(alloc: Global, draft: &Draft<'_>, once: bool) -> Result<(), GraphError>
+    requires { once ≡ true → StandOnce (task_names (draft_rows draft.now)) }
     ensures { Leads result (task_names (draft_rows draft.now)) (graph_names (draft_rows draft.now)) }
 {
     if let Err(refusal) = check_semaphores(alloc, draft.scope, draft.sem_names.as_slice()) {
         return Err(refusal);
     }
-    check_tasks(alloc, draft.scope, draft.version, draft.tasks.as_slice())
+    check_tasks(
+        alloc,
+        draft.scope,
+        draft.version,
+        draft.tasks.as_slice(),
+        once,
+    )
 }
 
 // That no semaphore has the name of an earlier one.
@@ -80,24 +90,44 @@ fn check_semaphores(alloc: Global, scope: Scope, names: &[&str]) -> Result<(), G
     }
 }
 
-// That no task has the name of an earlier one, or a semaphore twice in a list.
+// That no task has the name of an earlier one, or a semaphore twice in a list. With `once` each name is known to stand
+// once.
 fn check_tasks(
     alloc: Global,
     scope: Scope,
     version: u64,
     tasks: &[FileTask<'_>],
+    once: bool,
 ) -> Result<(), GraphError>
+    requires { once ≡ true → StandOnce (map (λ task. task.names.name.now) tasks.now) }
     ensures { Leads result (map (λ task. task.names.name.now) tasks.now)
         (walk (add_task_name scope version) [] (map (λ task. named_task task.names) tasks.now)) }
 {
     let mut places = HashMap::new(alloc);
     for (place, task) in tasks.iter().enumerate() {
-        let new = keep_place(&mut places, task.names.name.as_bytes(), place)?;
+        let new = is_new(&mut places, once, task.names.name.as_bytes(), place)?;
         if let Err(refusal) = check_task(alloc, scope, version, place, new, &task.names) {
             return Err(refusal);
         }
     }
     Ok(())
+}
+
+// Whether a name is new: known where each stands once, or else seen by the places of those before, among which it gets
+// its own.
+fn is_new<'n>(
+    places: &mut Places<'n>,
+    once: bool,
+    name: &'n [u8],
+    place: usize,
+) -> Result<bool, NoMemory>
+    ensures new { IfOk result (λ new. new ≡ (once || is_none (place_in places.old name.now))) }
+    ensures kept { OnOk result (once ≡ false → KeepsPlace places.old name.now place places.new) }
+{
+    if once {
+        return Ok(true);
+    }
+    keep_place(places, name, place)
 }
 
 // The same of the task of this number, whose name is new or not.
@@ -122,10 +152,14 @@ fn check_task(
 }
 
 // That no name stands twice in the list of a field.
+#[tactic(auto, using(crate::proofs::NameLemmas::few_names))]
 fn check_list(alloc: Global, spot: Spot, field: &str, names: &[&str]) -> Result<(), GraphError>
     ensures { Leads result (strings names.now)
         (walk (add_name (λ k. GraphError.Repeated spot field.now)) [] (strings names.now)) }
 {
+    if names.len() < 2 {
+        return Ok(());
+    }
     match first_repeated(alloc, names)? {
         Some(_) => Err(repeated(alloc, spot, field)),
         None => Ok(()),

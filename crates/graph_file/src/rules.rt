@@ -23,7 +23,7 @@ pub(crate) fn plan_of(alloc: Global, file: FileDraft<'_>) -> Result<Plan, GraphE
     let names = names_of_graphs(alloc, file.modules.as_slice())?;
     let modules = index_of(alloc, names)?;
     let numbers = numbers_of(alloc, &file, &modules)?;
-    check_names(alloc, &file)?;
+    check_names(alloc, &file, numbers.once)?;
     let texts = texts_of(alloc, &file)?;
     check_limits(alloc, &file, &numbers, &modules, texts.names.len())?;
     check_pipelines(&file)?;

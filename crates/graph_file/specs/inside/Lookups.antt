@@ -1,6 +1,7 @@
 -- What sets and maps know of names.
-use Rattle.std.specs.Prelude.{◌≡◌, ℕ, List, map, Option, Some, None, if◌then◌else◌, position}
+use Rattle.std.specs.Prelude.{◌≡◌, ℕ, ◌<◌, List, map, length, take, true, not, Option, Some, None, if◌then◌else◌, position, get_or}
 use Rattle.std.specs.Borrow.{Bor}
+use Rattle.std.specs.List.{list_any}
 use Rattle.std.specs.Option.{option_or}
 use Rattle.std.specs.Str.{bytes_eq}
 use Rattle.std.specs.HashMap.{HashMap, get_by}
@@ -18,6 +19,14 @@ module _ {S : Type 0} where
   -- the new map has this place for the name, if there was none
   abbrev pub KeepsPlace : HashMap (Bor (List ℕ)) ℕ S → List ℕ → ℕ → HashMap (Bor (List ℕ)) ℕ S → Type 0
   KeepsPlace old name place new = (q : List ℕ) → place_in new q ≡ option_or (place_in old q) (if bytes_eq q name then Some place else None)
+
+-- none of so many names, the first ones, stands before its place
+abbrev pub AreNew : List (List ℕ) → ℕ → Type 0
+AreNew names count = (k : ℕ) (name : List ℕ) → k < count → name ≡ get_or names k name → not (list_any (bytes_eq name) (take k names)) ≡ true
+
+-- each of the names stands once
+abbrev pub StandOnce : List (List ℕ) → Type 0
+StandOnce names = AreNew names (length names)
 
 -- the map of an index has the first place of each of its names
 abbrev pub IsIndex : Index → Type 0

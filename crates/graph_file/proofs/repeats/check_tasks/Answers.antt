@@ -1,7 +1,6 @@
-use Rattle.std.proofs.Common.{take}
-use Rattle.graph_file.proofs.NameLemmas.{new-name}
+use Rattle.graph_file.proofs.NameLemmas.{new-or_once}
 use Rattle.graph_file.proofs.PlaceLemmas.{HasPlaces-more}
-use Rattle.graph_file.proofs.RepeatLemmas.{name-is, name-within, names_now, tasks-more, tasks-refused}
+use Rattle.graph_file.proofs.RepeatLemmas.{names_now, task-is, task-within, tasks-more, tasks-refused}
 use Rattle.graph_file.proofs.repeats.check_tasks.Goals as goal
 
 pub returns-in-Err : goal.returns-in-Err
@@ -9,8 +8,12 @@ returns-in-Err c =
     let i = c.loop-place.place in
     let tasks = c.args.tasks.now in
     let task = c.index-tasks-place.result in
-    let noted = new-name c.loop-place.places (take i (names_now tasks)) task.names.name.now c.in_ok-new.new c.loop-place.invariant.places (rw c.as_bytes.ensures.value at c.in_ok-new.ensures.new) in
-    tasks-refused c.args.scope c.args.version tasks i task c.in_ok-new.new c.loop-place-test.true c.index-tasks-place.is noted c.in-Err.refusal c.in-Err.ensures c.loop-place.invariant.walked
+    let new = c.in_ok-new.new in
+    let within = c.loop-place-test.true in
+    let is = c.index-tasks-place.is in
+    let noted = new-or_once c.loop-place.places (names_now tasks) i task.names.name.now c.args.once new (task-within tasks i within) (task-is tasks i task within is) c.requires c.loop-place.invariant.places
+    (rw c.as_bytes.ensures.value at c.in_ok-new.ensures.new) in
+    tasks-refused c.args.scope c.args.version tasks i task new within is noted c.in-Err.refusal c.in-Err.ensures c.loop-place.invariant.walked
 
 pub loop-place-preserved : goal.loop-place-preserved
 loop-place-preserved c =
@@ -20,9 +23,10 @@ loop-place-preserved c =
     let new = c.in_ok-new.new in
     let within = c.loop-place-test.true in
     let is = c.index-tasks-place.is in
-    let noted = new-name c.loop-place.places (take i (names_now tasks)) task.names.name.now new c.loop-place.invariant.places (rw c.as_bytes.ensures.value at c.in_ok-new.ensures.new) in
+    let noted = new-or_once c.loop-place.places (names_now tasks) i task.names.name.now c.args.once new (task-within tasks i within) (task-is tasks i task within is) c.requires c.loop-place.invariant.places
+    (rw c.as_bytes.ensures.value at c.in_ok-new.ensures.new) in
     record {
-      places = HasPlaces-more c.loop-place.places c.keep_place.new.places (names_now tasks) i task.names.name.now (name-within c.args.scope c.args.version tasks i task new within is noted) (name-is c.args.scope c.args.version tasks i task new within is noted)
-          c.loop-place.invariant.places (rw c.as_bytes.ensures.value at c.in_ok-new.ensures.kept);
+      places = λ unknown. HasPlaces-more c.loop-place.places c.is_new.new.places (names_now tasks) i task.names.name.now (task-within tasks i within) (task-is tasks i task within is) (c.loop-place.invariant.places unknown)
+          ((rw c.as_bytes.ensures.value at c.in_ok-new.ensures.kept) unknown);
       walked = tasks-more c.args.scope c.args.version tasks i task new within is noted c.in_default.ensures c.loop-place.invariant.walked;
     }

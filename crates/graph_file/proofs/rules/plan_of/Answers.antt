@@ -17,4 +17,4 @@ plan_with-requires-clause-names c = c.in_ok-modules.ensures.names ∙ c.in_ok-na
 
 pub plan_with-requires-clause-ready : goal.plan_with-requires-clause-ready
 plan_with-requires-clause-ready c =
-    ready-file (file_rows c.args.file) (numbers_rows c.in_ok-numbers.numbers) (names_of_modules (file_rows c.args.file)) c.requires c.in_ok-numbers.ensures c.in_ok-check_names.ensures c.in_ok-check_limits.ensures
+    ready-file (file_rows c.args.file) (numbers_rows c.in_ok-numbers.numbers) (names_of_modules (file_rows c.args.file)) c.requires c.in_ok-numbers.ensures.numbers c.in_ok-check_names.ensures c.in_ok-check_limits.ensures

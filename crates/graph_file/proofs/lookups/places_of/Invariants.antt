@@ -1,7 +1,0 @@
-use Rattle.std.proofs.Common.{take}
-use Rattle.graph_file.specs.inside.Lookups.{HasPlaces}
-use Rattle.graph_drafts.specs.inside.Reading.{strings}
-use Rattle.graph_file.proofs.lookups.places_of.Given as goal
-
-abbrev pub invariant-loop-place : goal.invariant-loop-place
-invariant-loop-place l = HasPlaces l.places (take l.place (strings l.names))
