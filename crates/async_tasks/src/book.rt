@@ -11,12 +11,14 @@ use crate::outstanding::Outstanding;
 use crate::pass::Pass;
 use crate::ready_task::ReadyTask;
 use crate::recorded_end::RecordedEnd;
+use crate::shelved::Shelved;
 use crate::started::Started;
 use crate::state::{AddError, BookState};
 use crate::work::AsyncWork;
 use keyed_lock::{Held, KeyedLock};
-use outside_io::NoMemory;
+use outside_io::{List, NoMemory};
 use ready_deques::{Owner, Ready};
+use std::alloc::Global;
 use std::marker::Model;
 use std::sync::atomic::AtomicBool;
 use std::sync::atomic::Ordering::SeqCst;
@@ -26,8 +28,9 @@ use tickets::Register;
 /// A book of tasks, to which callers add while workers step.
 pub struct AsyncBook<W: AsyncWork> {
     pub(crate) register: Register<Outstanding<W, W::V>>,
-    pub(crate) lock: KeyedLock<BookState<W>>,
+    pub(crate) lock: KeyedLock<Shelved<W>>,
     pub(crate) ready: Arc<Ready<ReadyTask>>,
+    pub(crate) alloc: Global,
     // Whether some ready task waits in the state, since the list had no room for it.
     pub(crate) left_over: AtomicBool,
 }
@@ -38,6 +41,7 @@ impl<W: AsyncWork> Drop for AsyncBook<W> {
             register,
             lock,
             ready,
+            alloc: _,
             left_over,
         } = self;
         drop((register, lock, ready, left_over));
@@ -53,10 +57,10 @@ impl<W: AsyncWork> Model for AsyncBook<W> {
 
     ghost Value = { AsyncBookState };
 
-    ghost view = { λ b. async_book_state b.register (made_with b.lock).callers
+    ghost view = { λ b. async_book_state b.register (made_with b.lock).state.value.callers
         (counts_of (arc_value b.ready)) };
 
-    ghost invariant = { λ b. ((made_with b.lock).register ≡ b.register)
+    ghost invariant = { λ b. ((made_with b.lock).state.value.register ≡ b.register)
         × (tag_of (arc_value b.ready) ≡ []) };
 }
 
@@ -86,37 +90,57 @@ impl<W: AsyncWork> AsyncBook<W> {
             unreachable!()
         };
         let caller = pass.caller;
+        let listed = List::from_slice(self.alloc, after);
         let Held {
-            value: mut state,
+            value: mut shelved,
             pass: lock_pass,
         } = self.lock.take(rt);
-        let (ticket, answer) = state.add_for(&self.register, ticket, caller, work, after);
-        pass.ticket = Some(ticket);
-        self.inject_ready(rt, &mut state);
+        let (ticket, answer) = shelved
+            .state
+            .add_for(&self.register, ticket, caller, work, after, listed);
+        let ready = shelved.state.take_ready();
         self.lock.put(Held {
-            value: state,
+            value: shelved,
             pass: lock_pass,
         });
+        pass.ticket = Some(ticket);
+        self.inject(rt, ready);
         answer
     }
 }
 
 impl<W: AsyncWork> AsyncBook<W> {
-    // Queues what is ready in the state, from outside.
-    fn inject_ready<R: Wait>(&self, rt: &R, state: &mut BookState<W>)
-        ensures { state.new ≡ state.old }
-    {
-        for _ in rt.forever() {
-            let Some(task) = state.take_ready() else {
-                return;
-            };
-            if self.ready.inject(rt, ReadyTask { task }).is_err() {
-                state.put_ready(task);
-                self.left_over.store(true, SeqCst);
-                return;
-            }
+    // Queues a ready task that was taken off the state, from outside.
+    fn inject<R: Wait>(&self, rt: &R, ready: Option<u32>) {
+        let Some(task) = ready else { return };
+        if self.ready.inject(rt, ReadyTask { task }).is_err() {
+            self.put_back(rt, task);
         }
-        unreachable!()
+    }
+
+    // So in the deque of an owner.
+    fn push<R: Wait>(&self, rt: &R, owner: &mut Owner<ReadyTask>, ready: Option<u32>)
+        requires { owner.old.tag ≡ [] }
+        ensures { owner.new ≡ owner.old }
+    {
+        let Some(task) = ready else { return };
+        if owner.push(rt, ReadyTask { task }).is_err() {
+            self.put_back(rt, task);
+        }
+    }
+
+    // Gives a ready task back to the state. It is left over.
+    fn put_back<R: Wait>(&self, rt: &R, task: u32) {
+        let Held {
+            value: mut shelved,
+            pass,
+        } = self.lock.take(rt);
+        shelved.state.put_ready(task);
+        self.lock.put(Held {
+            value: shelved,
+            pass,
+        });
+        self.left_over.store(true, SeqCst);
     }
 
     // Queues what is ready in the state, in the deque of an owner. After an `Err` some is left over.
@@ -153,15 +177,19 @@ impl<W: AsyncWork> AsyncBook<W> {
         requires { owner.old.tag ≡ [] }
         ensures { owner.new ≡ owner.old }
     {
-        if !self.left_over.swap(false, SeqCst) {
+        // It is looked at before it is written, since seats that find nothing to do look here again and again.
+        if !self.left_over.load(SeqCst) || !self.left_over.swap(false, SeqCst) {
             return Ok(false);
         }
         let Held {
-            value: mut state,
+            value: mut shelved,
             pass,
         } = self.lock.take(rt);
-        let pushed = self.push_ready(rt, owner, &mut state);
-        self.lock.put(Held { value: state, pass });
+        let pushed = self.push_ready(rt, owner, &mut shelved.state);
+        self.lock.put(Held {
+            value: shelved,
+            pass,
+        });
         match pushed {
             Ok(()) => Ok(true),
             Err(error) => Err(error),
@@ -175,11 +203,14 @@ impl<W: AsyncWork> AsyncBook<W> {
             (λ answer. IfSome answer (λ started. started.register ≡ self.now.register)) }
     {
         let Held {
-            value: mut state,
+            value: mut shelved,
             pass,
         } = self.lock.take(rt);
-        let started = state.start_in(&self.register, task);
-        self.lock.put(Held { value: state, pass });
+        let started = shelved.state.start_in(&self.register, task);
+        self.lock.put(Held {
+            value: shelved,
+            pass,
+        });
         started
     }
 
@@ -203,12 +234,19 @@ impl<W: AsyncWork> AsyncBook<W> {
         ensures later { IsAfter last result.place }
     {
         let Held {
-            value: mut state,
+            value: mut shelved,
             pass,
         } = self.lock.take(rt);
-        let end = state.end_after(&self.register, started, value, last);
-        let _ = self.push_ready(rt, owner, &mut state); // what is left over is queued by a later step
-        self.lock.put(Held { value: state, pass });
+        let (end, _carried) = shelved
+            .state
+            .end_after(&self.register, started, value, last);
+        let first = shelved.state.take_ready();
+        let _ = self.push_ready(rt, owner, &mut shelved.state); // what is left over is queued by a later step
+        self.lock.put(Held {
+            value: shelved,
+            pass,
+        });
+        self.push(rt, owner, first);
         end
     }
 }

@@ -39,16 +39,19 @@ impl<W: AsyncWork> AsyncBook<W> {
         ensures { IsFinished W.answers self passes.items result }
     {
         let Held {
-            value: mut state,
+            value: mut shelved,
             pass,
         } = self.lock.take(rt);
-        let Some(task) = state.first_open() else {
-            close_all(&mut state, &self.register, passes);
-            return Finished::Done(state.into_run());
+        let Some(task) = shelved.state.first_open() else {
+            close_all(&mut shelved.state, &self.register, passes);
+            return Finished::Done(shelved.into_run());
         };
-        look_with_all(&mut state, &self.register, &mut passes);
-        let found = Snapshot::of(&state);
-        self.lock.put(Held { value: state, pass });
+        look_with_all(&mut shelved.state, &self.register, &mut passes);
+        let found = Snapshot::of(&*shelved.state);
+        self.lock.put(Held {
+            value: shelved,
+            pass,
+        });
         Finished::Open {
             book: self,
             passes,

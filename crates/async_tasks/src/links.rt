@@ -2,7 +2,6 @@
 // start is looked up where it starts. So nothing is proved of it but that each call is safe.
 use outside_io::NoMemory;
 use std::alloc::Global;
-use std::mem::replace;
 
 /// What waits for one task, and what it waits for.
 #[derive(Drop)]
@@ -10,17 +9,25 @@ struct Link {
     over: bool,
     // How many of the tasks after which it runs aren't over, each as often as it was named.
     left: u32,
-    // The tasks that run after it, each as often as it was named there.
-    next: Vec<u32>,
+    // The newest edge to a task that runs after it.
+    newest: Option<u32>,
     // The ready task below it on the stack of ready tasks.
     below: Option<u32>,
 }
 
-/// The links of all tasks, by number, and a stack of those that are ready and not taken off yet.
+/// A task that runs after another, and the next older edge from that one.
+#[derive(Drop)]
+struct Edge {
+    waiting: u32,
+    older: Option<u32>,
+}
+
+/// The links of all tasks, by number, all edges between them, and a stack of those that are ready and not taken off
+/// yet. The edges are in one list, so that an add takes no memory of its own for them.
 #[derive(Drop)]
 pub struct Links {
-    alloc: Global,
     tasks: Vec<Link>,
+    edges: Vec<Edge>,
     ready: Option<u32>,
 }
 
@@ -28,8 +35,8 @@ impl Links {
     /// Of no tasks. It takes no memory.
     pub fn new(alloc: Global) -> Links {
         Links {
-            alloc,
             tasks: Vec::new(alloc),
+            edges: Vec::new(alloc),
             ready: None,
         }
     }
@@ -56,9 +63,10 @@ impl Links {
             return;
         };
         link.over = true;
-        let next = replace(&mut link.next, Vec::new(self.alloc));
-        for waiting in next {
-            self.count_down(waiting);
+        let mut next = link.newest.take();
+        for _ in 0..self.edges.len() {
+            let Some(edge) = next else { return };
+            next = self.follow(edge);
         }
     }
 
@@ -82,17 +90,34 @@ impl Links {
 
     // How often a task waits for another that it names once: not at all if that one is over.
     fn link(&mut self, before: u32, id: u32) -> Result<u32, NoMemory> {
-        match self.tasks.get_mut(before as usize) {
-            Some(link) => link_to(link, id),
-            None => Ok(0),
+        // A book has far fewer edges.
+        let Ok(edge) = u32::try_from(self.edges.len()) else {
+            return Err(NoMemory);
+        };
+        let Some(link) = self.tasks.get_mut(before as usize) else {
+            return Ok(0);
+        };
+        if link.over {
+            return Ok(0);
         }
+        self.edges.push(Edge {
+            waiting: id,
+            older: link.newest,
+        })?;
+        link.newest = Some(edge);
+        Ok(1)
     }
 
     // Undoes the links to these tasks that were made last.
     fn unlink(&mut self, after: &[u32]) {
-        for before in after {
-            if let Some(link) = self.tasks.get_mut(*before as usize) {
-                let _ = link.next.pop();
+        for before in after.iter().rev() {
+            if let Some(link) = self.tasks.get_mut(*before as usize)
+                && !link.over
+            {
+                link.newest = match self.edges.pop() {
+                    Some(edge) => edge.older,
+                    None => None,
+                };
             }
         }
     }
@@ -102,13 +127,21 @@ impl Links {
         self.tasks.push(Link {
             over: false,
             left,
-            next: Vec::new(self.alloc),
+            newest: None,
             below: None,
         })?;
         if left == 0 {
             self.put_ready(id);
         }
         Ok(())
+    }
+
+    // The task that an edge leads to waits for one task less. The next older edge.
+    fn follow(&mut self, edge: u32) -> Option<u32> {
+        let Edge { waiting, older } = self.edges.get(edge as usize)?;
+        let (waiting, older) = (*waiting, *older);
+        self.count_down(waiting);
+        older
     }
 
     // One of the tasks for which it waits is over.
@@ -121,12 +154,4 @@ impl Links {
             self.put_ready(task);
         }
     }
-}
-
-fn link_to(link: &mut Link, id: u32) -> Result<u32, NoMemory> {
-    if link.over {
-        return Ok(0);
-    }
-    link.next.push(id)?;
-    Ok(1)
 }

@@ -12,6 +12,7 @@ use crate::outstanding::Outstanding;
 use crate::pass::Pass;
 use crate::ready_task::ReadyTask;
 use crate::seat::AsyncSeat;
+use crate::shelved::Shelved;
 use crate::state::BookState;
 use crate::work::AsyncWork;
 use keyed_lock::KeyedLock;
@@ -48,13 +49,15 @@ impl<W: AsyncWork> AsyncBook<W> {
             mut state,
         } = BookState::new(alloc, callers)?;
         let passes = open_passes(alloc, &register, &mut state, callers)?;
-        let lock = KeyedLock::new(alloc, state)?;
+        let shelved = Shelved::new(alloc, state)?;
+        let lock = KeyedLock::new(alloc, shelved)?;
         let Shares { ready, owners } = Ready::new(alloc, workers, &ReadyTask { task: 0 })?;
         let seats = seats_of(alloc, &ready, owners)?;
         let book = AsyncBook {
             register,
             lock,
             ready,
+            alloc,
             left_over: AtomicBool::new(false),
         };
         Ok(AsyncParts {

@@ -28,3 +28,10 @@ impl<W: AsyncWork> Model for Started<W> {
     ghost invariant = { λ s. IsTicketFor s.task (arc_value s.work) (map arc_value s.ins)
         s.ticket.item };
 }
+
+/// The work of a start and what it found, which are left when it has ended.
+#[derive(Drop)]
+pub struct Carried<W: AsyncWork> {
+    pub work: Arc<W>,
+    pub ins: List<Arc<W::V>>,
+}

@@ -23,9 +23,8 @@ use crate::pass::Pass;
 use crate::recorded_end::RecordedEnd;
 use crate::run::AsyncRun;
 use crate::stage::Stage;
-use crate::started::Started;
+use crate::started::{Carried, Started};
 use crate::work::AsyncWork;
-use keyed_lock::Keyed;
 use outside_io::{List, NoMemory};
 use std::alloc::Global;
 use std::marker::Model;
@@ -83,20 +82,33 @@ impl<W: AsyncWork> Model for BookState<W> {
         × HasEventRoom (length s.rows.items) (vec_capacity s.events) };
 }
 
-impl<W: AsyncWork> Keyed for BookState<W> {
-    ghost use Rattle.async_tasks.specs.Books.{BookKey, key_of};
-
-    ghost Key = { BookKey };
-
-    ghost key = { key_of };
-}
-
 impl<W: AsyncWork> BookState<W> {
     /// Adds a task, which runs after these tasks, and returns its number. After an `Err` the book is as it was.
     pub fn add_in(&mut self, caller: u32, work: Arc<W>, after: &[u32]) -> Result<u32, AddError<W>>
         requires caller { caller < self.old.callers }
         requires few { length after.now ≤ after_limit }
         requires pass { NothingOut (caller_of caller) self.old.items }
+        ensures number { IfOk result (λ id. id ≡ length self.old.rows) }
+        ensures ok { OnOk result (self.new ≡ with_add self.old caller (arc_value work) after.now) }
+        ensures err { OnErr result (self.new ≡ self.old) }
+        ensures refused { IfErr result (RefusesAdd (length self.old.rows) work after.now) }
+    {
+        let listed = List::from_slice(self.alloc, after);
+        self.add_listed(caller, work, after, listed)
+    }
+
+    // So with the tasks after which it runs as a list, unless there was no memory for it.
+    fn add_listed(
+        &mut self,
+        caller: u32,
+        work: Arc<W>,
+        after: &[u32],
+        listed: Result<List<u32>, NoMemory>,
+    ) -> Result<u32, AddError<W>>
+        requires caller { caller < self.old.callers }
+        requires few { length after.now ≤ after_limit }
+        requires pass { NothingOut (caller_of caller) self.old.items }
+        requires listed { IfOk listed (λ list. list ≡ after.now) }
         ensures number { IfOk result (λ id. id ≡ length self.old.rows) }
         ensures ok { OnOk result (self.new ≡ with_add self.old caller (arc_value work) after.now) }
         ensures err { OnErr result (self.new ≡ self.old) }
@@ -114,7 +126,7 @@ impl<W: AsyncWork> BookState<W> {
             });
         }
         let place = self.events.len() as u64;
-        let Ok(row) = new_row(self.alloc, caller, id, after, place) else {
+        let Ok(row) = new_row(caller, id, after, listed, place) else {
             return Err(AddError::NoMemory { work });
         };
         let Ok(()) = make_room(&mut self.rows, &mut self.works, &mut self.stages) else {
@@ -186,18 +198,42 @@ impl<W: AsyncWork> BookState<W> {
         ensures recorded { result
             ≡ end_record register.now started.task (length self.old.events) }
     {
-        let Started { ticket, task, .. } = started;
+        self.end_kept(register, started, value).0
+    }
+
+    // So, and gives the work and its inputs back, which the caller drops when the lock is free.
+    fn end_kept(
+        &mut self,
+        register: &Register<Outstanding<W, W::V>>,
+        started: Started<W>,
+        value: Arc<W::V>,
+    ) -> (RecordedEnd<W>, Carried<W>)
+        requires register { self.old.register ≡ register.now }
+        requires started { started.register ≡ register.now }
+        requires answered { W.answers started.work started.ins (arc_value value) }
+        ensures key { key_of self.new ≡ key_of self.old }
+        ensures ended { EndsTask self.old started value self.new }
+        ensures recorded { result.0
+            ≡ end_record register.now started.task (length self.old.events) }
+    {
+        let Started {
+            ticket,
+            task,
+            work,
+            ins,
+        } = started;
         let place = self.events.len() as u64;
         register.redeem(&mut self.book, ticket);
         self.events.push_reserved(TaskEvent::Ended(task));
         set_stage(&mut self.stages, task, Stage::Over(value));
         self.links.end(task);
         let ticket = register.issue(&mut self.book, Outstanding::Recorded { task, place });
-        RecordedEnd {
+        let end = RecordedEnd {
             ticket,
             task,
             place,
-        }
+        };
+        (end, Carried { work, ins })
     }
 }
 
@@ -230,7 +266,8 @@ impl<W: AsyncWork> BookState<W> {
         }
     }
 
-    /// Ends a start with a value. The last end that its seat was given is taken back, and comes before this one.
+    /// Ends a start with a value. The last end that its seat was given is taken back, and comes before this one. What
+    /// the start had taken along is returned as well.
     #[tactic(auto, using(crate::proofs::Ending::next_is_after))]
     pub(crate) fn end_after(
         &mut self,
@@ -238,17 +275,17 @@ impl<W: AsyncWork> BookState<W> {
         started: Started<W>,
         value: Arc<W::V>,
         last: Option<RecordedEnd<W>>,
-    ) -> RecordedEnd<W>
+    ) -> (RecordedEnd<W>, Carried<W>)
         requires register { self.old.register ≡ register.now }
         requires started { started.register ≡ register.now }
         requires answered { W.answers started.work started.ins (arc_value value) }
         requires last { IfSome last (λ end. end.register ≡ register.now) }
         ensures key { key_of self.new ≡ key_of self.old }
-        ensures recorded { (result.register ≡ register.now) × (result.task ≡ started.task) }
-        ensures later { IsAfter last result.place }
+        ensures recorded { (result.0.register ≡ register.now) × (result.0.task ≡ started.task) }
+        ensures later { IsAfter last result.0.place }
     {
         self.close_last(register, last);
-        self.end_in(register, started, value)
+        self.end_kept(register, started, value)
     }
 }
 
@@ -314,11 +351,13 @@ impl<W: AsyncWork> BookState<W> {
         caller: u32,
         work: Arc<W>,
         after: &[u32],
+        listed: Result<List<u32>, NoMemory>,
     ) -> (Ticket<Outstanding<W, W::V>>, Result<u32, AddError<W>>)
         requires register { self.old.register ≡ register.now }
         requires ticket { (ticket.register ≡ register.now) × IsPassFor caller ticket.item }
         requires caller { caller < self.old.callers }
         requires few { length after.now ≤ after_limit }
+        requires listed { IfOk listed (λ list. list ≡ after.now) }
         ensures key { key_of self.new ≡ key_of self.old }
         ensures ticket { (result.0.register ≡ register.now) × IsPassFor caller result.0.item }
         ensures later { ticket.number < result.0.number }
@@ -333,7 +372,7 @@ impl<W: AsyncWork> BookState<W> {
             (RefusesAdd (length (rows_seen result.0.item)) work after.now) }
     {
         self.close_pass(register, ticket, caller);
-        let answer = self.add_in(caller, work, after);
+        let answer = self.add_listed(caller, work, after, listed);
         (self.open_pass(register, caller), answer)
     }
 
@@ -462,18 +501,20 @@ fn first_unseen(after: &[u32], count: u32) -> Option<u32>
     after.iter().copied().find(|task| count <= *task)
 }
 
-// The row of an add.
+// The row of an add, if there was memory for the list of tasks that it names.
 fn new_row(
-    alloc: Global,
     caller: u32,
     id: u32,
     after: &[u32],
+    listed: Result<List<u32>, NoMemory>,
     place: u64,
 ) -> Result<AddRow, NoMemory>
+    requires { IfOk listed (λ list. list ≡ after.now) }
     ensures { IfOk result
         (λ row. row ≡ record { caller = caller; id = id; after = after.now; place = place }) }
 {
-    let after = List::from_slice(alloc, after)?;
+    let _ = after;
+    let after = listed?;
     Ok(AddRow {
         caller,
         id,

@@ -9,7 +9,7 @@ use Rattle.async_tasks.specs.Starts.{OpenStart}
 use Rattle.async_tasks.specs.inside.Keeps.{HasEventRoom}
 use Rattle.async_tasks.proofs.Starting.{keeps_at}
 use Rattle.async_tasks.proofs.Ending.{ended, ends, is_open, room_to_end}
-use Rattle.async_tasks.proofs.state.BookState.end_in.Goals as goal
+use Rattle.async_tasks.proofs.state.BookState.end_kept.Goals as goal
 
 pub push_reserved-requires : goal.push_reserved-requires
 push_reserved-requires g c =

@@ -4,7 +4,7 @@ use Rattle.std.proofs.lemmas.List.{map_push}
 use Rattle.async_tasks.specs.declared.stage.Stage.TheVariants.{Waiting}
 use Rattle.async_tasks.specs.Books.{BookHistory, NothingOut, caller_of}
 use Rattle.async_tasks.proofs.Adding.{added}
-use Rattle.async_tasks.proofs.state.BookState.add_in.Goals as goal
+use Rattle.async_tasks.proofs.state.BookState.add_listed.Goals as goal
 
 pub invariant_of-self-2 : goal.invariant_of-self-2
 invariant_of-self-2 g c = (
