@@ -14,7 +14,8 @@ pub record IsFinishedHistory (adds : List AddRow) (events : List TaskEvent) : Ty
   pub history : IsHistory callers adds events
   pub each : (t : ℕ) → t < length adds → (times_started events t ≡ 1) × (times_ended events t ≡ 1)
 
--- The journal is legal and that of a finished run of the net with so many starts at most, and each start finds what it may.
+-- The journal is legal and that of a finished run of the net with so many starts at most, and each start finds what it
+-- may.
 pub record IsWholeJournal (net : NetRows) (limit : ℕ) (journal : List Entry) : Type 0 where
   pub legal : ShapeLegal net limit journal
   pub found : MeetsDataRule net journal
