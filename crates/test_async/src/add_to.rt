@@ -25,13 +25,13 @@ impl AsyncWork for AddTo {
     }
 }
 
-// A number that is turned so many times.
+// A number that is turned so many times. A turn is one that a compiler can't put together with the next.
 fn turned(number: u64, turns: u32) -> u64 {
     let mut turned = number;
     for _ in 0..turns {
-        turned = turned
-            .wrapping_mul(6_364_136_223_846_793_005)
-            .wrapping_add(1);
+        turned ^= turned << 13;
+        turned ^= turned >> 7;
+        turned ^= turned << 17;
     }
     turned
 }

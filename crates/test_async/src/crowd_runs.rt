@@ -4,15 +4,15 @@ ghost use Rattle.async_tasks.specs.AsyncBooks.{AsyncBookState};
 ghost use Rattle.test_async.specs.Sides.{IsSideOf};
 
 use crate::add_to::AddTo;
-use crate::crowds::{Adds, Crowd, Side, work_together};
+use crate::crowds::{CallerAdds, Crowd, Side, work_together};
 use async_tasks::{AsyncBook, AsyncParts, AsyncRun, Finished};
 use outside_io::NoMemory;
 use std::alloc::Global;
 use std::sync::Wait;
 use std::thread::Threads;
 
-/// The run of a book to which two callers add so many tasks each, every one after the caller's last, beside two workers.
-/// `None` where a task has no end.
+/// The run of a book to which two callers add so many tasks each, every one after the caller's last, beside two
+/// workers. `None` where a task has no end.
 pub fn run_of_two_callers<R: Threads + Wait + Sync>(
     rt: &R,
     alloc: Global,
@@ -23,7 +23,7 @@ pub fn run_of_two_callers<R: Threads + Wait + Sync>(
         seats,
         passes,
     } = AsyncBook::new(alloc, 2, 2)?;
-    let adds = Adds {
+    let adds = CallerAdds {
         count: tasks,
         turns: 0,
         chained: true,

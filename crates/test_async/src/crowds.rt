@@ -5,6 +5,7 @@ ghost use Rattle.test_async.specs.Sides.{IsSideOf};
 
 use crate::add_to::{AddTo, Refused};
 use async_tasks::{AsyncBook, AsyncSeat, AsyncStep, Pass};
+use crossbeam_utils::CachePadded;
 use std::alloc::Global;
 use std::sync::atomic::Ordering::SeqCst;
 use std::sync::atomic::{AtomicBool, AtomicU64};
@@ -14,23 +15,25 @@ use std::thread::{Threads, for_each_mut, yield_now};
 // How many callers or workers of a crowd have a thread.
 const MOST_THREADS: usize = 4;
 
-/// What each caller adds: so many tasks, each with so many turns, and each after the caller's last one or after nothing.
+/// What each caller adds: so many tasks, each with so many turns, and each after the caller's last one or after
+/// nothing.
 #[derive(Clone, Copy)]
-pub struct Adds {
+pub struct CallerAdds {
     pub count: u32,
     pub turns: u32,
     pub chained: bool,
 }
 
-/// A book, what each caller is to add, how many tasks are to be run, how many were, and whether an add or a step failed,
-/// so that no thread waits for it.
+/// A book, what each caller is to add, how many tasks are to be run, how many were, and whether an add or a step
+/// failed, so that no thread waits for it.
 #[derive(Drop)]
 pub struct Crowd {
     pub book: AsyncBook<AddTo>,
     alloc: Global,
-    adds: Adds,
+    adds: CallerAdds,
     wanted: u64,
-    ran: AtomicU64,
+    // On a cache line of its own, since each step writes it, and looks at the book.
+    ran: CachePadded<AtomicU64>,
     failed: AtomicBool,
 }
 
@@ -43,7 +46,7 @@ pub enum Side {
 
 impl Crowd {
     /// Of so many callers.
-    pub fn new(alloc: Global, book: AsyncBook<AddTo>, callers: u32, adds: Adds) -> Crowd
+    pub fn new(alloc: Global, book: AsyncBook<AddTo>, callers: u32, adds: CallerAdds) -> Crowd
         ensures { result.book ≡ book }
     {
         Crowd {
@@ -51,7 +54,7 @@ impl Crowd {
             alloc,
             adds,
             wanted: callers as u64 * adds.count as u64,
-            ran: AtomicU64::new(0),
+            ran: CachePadded::new(AtomicU64::new(0)),
             failed: AtomicBool::new(false),
         }
     }

@@ -17,4 +17,4 @@ mod two_callers;
 
 pub use add_to::{AddTo, Refused};
 pub use crowd_runs::run_of_two_callers;
-pub use crowds::{Adds, Crowd, Side, add_together, step_together, work_together};
+pub use crowds::{CallerAdds, Crowd, Side, add_together, step_together, work_together};

@@ -7,12 +7,12 @@ use std::io;
 use std::sync::Wait;
 use std::thread::Threads;
 use std::time::{Clock, Instant};
-use test_async::{Adds, Crowd, add_together, step_together};
+use test_async::{CallerAdds, Crowd, add_together, step_together};
 
 // What the caller adds. The turns of a task take about two microseconds.
-const ADDS: Adds = Adds {
+pub const ADDS: CallerAdds = CallerAdds {
     count: 100_000,
-    turns: 5000,
+    turns: 1000,
     chained: false,
 };
 
