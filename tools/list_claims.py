@@ -14,10 +14,9 @@ from spec_files import CRATES, definitions_in, imported, name_of, words
 
 CLAIM = re.compile(r"^\s*(?:pub )?([a-z_][a-z0-9_-]*) : (.*)$")
 CLAUSE = re.compile(r"ensures ([a-z_0-9]+) \{((?:[^{}]|\{[^{}]*\})*)\}")
-# Crates whose definitions are the claims' own nets and journals, or serve tests alone, and libraries that no clause of
-# flow_main cites: of what these say only their tests compute examples.
+# Crates whose definitions are the claims' own nets and journals, or serve tests alone: of what these say only their
+# tests compute examples.
 EXAMPLES = ("claims", "library_claims", "library_tour", "test_async", "test_desk", "test_desk_book", "test_grains", "test_jobs")
-LIBRARIES = ("run_desk",)
 # The definitions without a claim, by the reason.
 UNCLAIMED = {
     "what a law says of every run, where no run can fail it; the law's proof ties it": (
@@ -47,7 +46,7 @@ def definitions():
     """Each definition that public clauses may cite: its file, its name and its text."""
     found = {}
     for path in sorted(CRATES.glob("*/specs/*.antt")):
-        if path.name[0].islower() or path.name == "Lib.antt" or path.parts[-3] in EXAMPLES + LIBRARIES:
+        if path.name[0].islower() or path.name == "Lib.antt" or path.parts[-3] in EXAMPLES:
             continue
         found[name_of(path)] = definitions_in(path)
     return found

@@ -5,3 +5,4 @@ pub mod WorkedRunJournals
 pub mod WorkedDesks
 pub mod WorkedDeskBooks
 pub mod WorkedDeskRuns
+pub mod WorkedServing

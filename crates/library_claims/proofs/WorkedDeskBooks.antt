@@ -102,8 +102,8 @@ full_books = (
   (λ is. is),
 )
 
--- A book in which all have asked, with a ticket that is back; two tables; what a pass of caller 0 has seen then, and when the first
--- ask was taken, or a fourth was asked, or the desk was full.
+-- A book in which all have asked, with a ticket that is back; two tables; what a pass of caller 0 has seen then, and
+-- when the first ask was taken, or a fourth was asked, or the desk was full.
 module _ (r s : TableId) (other : s ≢ r) (fewer more longer many : Snapshot (Vec DeskEntry Global)) (has_fewer : fewer.value.items ≡ asked) (has_more : more.value.items ≡ one_open)
     (has_longer : longer.value.items ≡ asked ++ Asked fourth ∷ []) (has_many : length (asks_of many.value.items) ≡ 10000) (goes_on : GoesOn asked many.value.items) where
   abbrev book_of : List DeskEntry → BookHistory
@@ -211,7 +211,8 @@ module _ (r s : TableId) (other : s ≢ r) (fewer more longer many : Snapshot (V
     (λ has. other (sym has.0)),
   )
 
-  -- why a desk of two graphs refuses an ask: the graph first, then the rounds, and then what the pass has seen in this call
+  -- why a desk of two graphs refuses an ask: the graph first, then the rounds, and then what the pass has seen in this
+  -- call
   no_third_graph : IsRefused 2 2 1 old old (NoSuchGraph 2) × IsRefused 2 2 1001 old old (NoSuchGraph 2) × ¬ IsRefused 2 1 1 old old (NoSuchGraph 1) × ¬ IsRefused 2 2 1 old old (NoSuchGraph 3)
   no_third_graph = ((refl, omega arith, refl), (refl, omega arith, refl), (λ is. absurd (omega (arith, is.1))), (λ is. absurd (omega (arith, is.0))))
 

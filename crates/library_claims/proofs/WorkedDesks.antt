@@ -6,7 +6,7 @@ use Rattle.desk_book.specs.declared.entry.DeskEntry.{DeskEntry}
 use Rattle.desk_book.specs.declared.entry.DeskEntry.TheVariants.{Asked, Took, Ended}
 use Rattle.desk_book.specs.declared.turn.Turn.TheVariants.{Waiting, Open, Over}
 use Rattle.desk_book.specs.Asks.{new_ask}
-use Rattle.desk_book.specs.Histories.{asks_of, asks_by, turn_of, EarlierOver, IsOver, MayTake, AskRule, DeskRule, IsDeskHistory, IsFirstToTake, IsOldestWaiting, NoneMayBeTaken, NoneWaits, EachIsPassedOver, IsBusy, IsUnended, IsFirstUnended, TakesTurns}
+use Rattle.desk_book.specs.Histories.{asks_of, asks_by, turn_of, EarlierOver, IsOver, MayTake, AskRule, DeskRule, IsDeskHistory, IsFirstToTake, IsOldestWaiting, NoneMayBeTaken, NoneWaits, EachIsPassedOver, IsUnended, IsFirstUnended, TakesTurns}
 
 pub some_same : {X : Type 0} {x y : X} → Some x ≡ Some y → x ≡ y
 some_same e = cc

@@ -8,7 +8,8 @@ use Rattle.async_tasks.specs.Histories.{times_started, times_ended, AllEnded, Is
 abbrev pub add : ℕ → ℕ → List ℕ → ℕ → AddRow
 add caller id after place = record { caller = caller; id = id; after = after; place = place }
 
--- Caller 0 adds the first task and the last, which runs after both others; caller 1 adds the middle one, after the first.
+-- Caller 0 adds the first task and the last, which runs after both others; caller 1 adds the middle one, after the
+-- first.
 abbrev pub adds : List AddRow
 adds = add 0 0 [] 0 ∷ add 1 1 (0 ∷ []) 0 ∷ add 0 2 (0 ∷ 1 ∷ 1 ∷ []) 2 ∷ []
 

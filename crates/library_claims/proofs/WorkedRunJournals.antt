@@ -89,7 +89,8 @@ ended_before_its_start h = absurd (omega (arith, h.history.each_event.0.0))
 finished_of_a_run : {W V : Type 0} (answers : W → List V → V → Type 0) (callers : ℕ) (run : AsyncRun W V) → IsAsyncRun answers callers run → IsFinishedHistory run.adds run.events
 finished_of_a_run answers callers run is = record { callers = callers; history = is.history; each = is.complete }
 
--- the journal of no tasks is whole; one that isn't legal, isn't complete, or in which a start finds another value is not
+-- the journal of no tasks is whole; one that isn't legal, isn't complete, or in which a start finds another value is
+-- not
 whole : IsWholeJournal (run_net []) 0 []
 whole = record { legal = tt; found = tt; complete = record { none_open = tt; sources = tt; weak = tt; strong = tt; limited = λ some. absurd (some refl) } }
 
