@@ -19,8 +19,8 @@ use worker_seat::EntersEach;
 pub enum Served {
     /// This ask was taken, and ended with all of its rounds.
     Ran(u64),
-    /// This ask was taken, and an allocation failed in one of its rounds: it ended with those that were run to their end
-    /// before.
+    /// This ask was taken, and an allocation failed in one of its rounds: it ended with those that were run to their
+    /// end before.
     Cut(u64),
     /// Each ask that waits is of a graph of which a run is under way. This is the oldest that waits.
     Busy(u64),
@@ -28,9 +28,9 @@ pub enum Served {
     Empty,
 }
 
-/// Takes the first ask whose turn has come, has its rounds run by the team, and hands them in. It may wait for the desk,
-/// and no lock is held while a graph runs. It looks at the desk in each call, and its answer is what the pass has then
-/// seen. After `Cut` the team runs no further job.
+/// Takes the first ask whose turn has come, has its rounds run by the team, and hands them in. It may wait for the
+/// desk, and no lock is held while a graph runs. It looks at the desk in each call, and its answer is what the pass has
+/// then seen. After `Cut` the team runs no further job.
 #[tactic(auto, using(crate::proofs::Serving::looks_twice, crate::proofs::Serving::has_served, crate::proofs::Serving::rounds_of))]
 pub fn serve<J: Recurs + Drop, X: Watch, E: EntersEach<J, X>, R: Threads + Wait + Sync>(
     rt: &R,

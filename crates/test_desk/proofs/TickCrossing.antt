@@ -1,4 +1,5 @@
--- What goes to the threads that enter the seats of a crew of jobs of which nothing comes.
+-- What goes to the threads that enter the seats of a crew of jobs whose tasks count, and to those that ask a desk of
+-- such jobs and serve it.
 use denote.Param.Send.{IsSend, IsSync, sendable}
 use denote.Struct.Field as field
 use Rattle.std.proofs.Crossing.{crosses, frees}
@@ -8,6 +9,8 @@ use Rattle.span_profile.specs.contracts.span_count.SpanCount as span_count
 use Rattle.worker_seat.proofs.Crossing.{seat_send, crew_sync}
 use Rattle.worker_seat.specs.contracts.seat.WorkerSeat as worker_seat
 use Rattle.worker_seat.specs.contracts.crew.Crew as crew
+use Rattle.test_desk.specs.contracts.trial.DeskTrial as trial
+use Rattle.test_desk_book.proofs.TickCrossing.{desk_shared}
 use Rattle.test_desk_book.specs.contracts.tick_job.TickJob as tick_job
 use Rattle.test_desk_book.specs.contracts.tick_job.TickJobJob.TheImpl as job
 use Rattle.test_desk_book.specs.contracts.tick_job.TickJobValued.TheImpl as valued
@@ -29,3 +32,6 @@ seat_crosses = seat_send tick_job.the_row (field.u64-field).row job.ghosts value
 
 pub crew_shared : IsSync (crew.the_row tick_job.the_row (field.u64-field).row job.ghosts valued.ghosts)
 crew_shared = crew_sync tick_job.the_row (field.u64-field).row job.ghosts valued.ghosts job_send job_sync (search sendable) (search sendable)
+
+pub trial_shared : IsSync trial.the_row
+trial_shared = search (desk_shared, fields) depth 60 fits 20000

@@ -1,106 +1,21 @@
 // Two callers that ask beside two that serve, each by a thread.
-ghost use Rattle.std.specs.Prelude.{◌≡◌, IfOk};
-ghost use Rattle.desk_book.specs.Desks.{ArePassesOf, IsPassOf};
-
-use crate::workers::{ByThreads, team};
-use run_desk::{Desk, DeskEnd, DeskParts, DeskPass, Served, serve};
-use span_profile::SpanCount;
-use std::sync::{Arc, Wait};
+use crate::trial::{Demand, run_of_callers};
 use std::test::Fail;
-use std::thread::{Threads, for_each_mut, yield_now};
-use test_desk_book::TickJob;
 
-// How often a caller asks, and how often it finds nothing to serve before it goes.
-const ASKS: u64 = 50;
-
-const PATIENCE: u32 = 1_000;
-
-// Asks so many times, of one graph and of the other.
-fn ask_often<R: Wait>(rt: &R, desk: &Desk<TickJob>, pass: &mut DeskPass)
-    requires pass { IsPassOf desk.now pass.old }
-    ensures pass { IsPassOf desk.now pass.new }
-    ensures caller { pass.new.caller ≡ pass.old.caller }
-{
-    for number in 0..ASKS {
-        let _ = desk.ask(rt, pass, (number % 2) as u32, number % 4);
-    }
-}
-
-// Serves by one thread, until it has so often found no ask that waits.
-fn serve_often<R: Threads + Wait + AllocGlobal + Sync>(
-    rt: &R,
-    desk: &Desk<TickJob>,
-    pass: &mut DeskPass,
-)
-    requires pass { IsPassOf desk.now pass.old }
-    ensures pass { IsPassOf desk.now pass.new }
-    ensures caller { pass.new.caller ≡ pass.old.caller }
-{
-    let Ok(mut team) = team(rt.alloc(), 1) else {
-        return;
-    };
-    let mut patience = PATIENCE;
-    for _ in rt.forever() {
-        match serve::<TickJob, SpanCount, ByThreads, R>(rt, rt.alloc(), desk, pass, &mut team) {
-            Served::Cut(_) => return,
-            Served::Ran(_) => (),
-            Served::Busy(_) => yield_now(),
-            Served::Empty => patience = patience.saturating_sub(1),
-        }
-        if patience == 0 {
-            return;
-        }
-    }
-    unreachable!()
-}
-
-// The first two callers ask, and then all serve.
-fn by_threads<R: Threads + Wait + AllocGlobal + Sync>(
-    rt: &R,
-    desk: &Desk<TickJob>,
-    passes: &mut Vec<DeskPass>,
-)
-    requires { ArePassesOf desk.now passes.old.items }
-    ensures { ArePassesOf desk.now passes.new.items }
-{
-    for_each_mut(
-        rt,
-        passes,
-        4,
-        &|at, pass: &mut DeskPass|
-            requires { IsPassOf desk.now pass.old }
-            ensures pass { IsPassOf desk.entry.now pass.new }
-            ensures caller { pass.new.caller ≡ pass.old.caller }
-        {
-            if at < 2 {
-                ask_often(rt, desk, pass);
-            }
-            serve_often(rt, desk, pass);
-        },
-    );
-}
-
-// A desk of two graphs with four callers, of which none has asked.
-fn four_callers<R: AllocGlobal>(rt: &R) -> Result<DeskParts<TickJob>, Fail>
-    ensures { IfOk result (λ parts. ArePassesOf parts.desk parts.passes.items) }
-{
-    let alloc = rt.alloc();
-    let mut jobs = Vec::new(alloc);
-    jobs.push(Arc::new(alloc, TickJob::of_tasks(alloc, 1)?)?)?;
-    jobs.push(Arc::new(alloc, TickJob::of_tasks(alloc, 0)?)?)?;
-    Ok(Desk::new(alloc, jobs, 4)?)
-}
+const DEMAND: Demand = Demand {
+    askers: 2,
+    each: 50,
+    rounds: 3,
+    of_both: true,
+};
 
 #[test]
 fn each_ask_of_two_threads_beside_two_others_is_served(rt: HostRuntime) -> Result<(), Fail> {
-    let DeskParts { desk, mut passes } = four_callers(&rt)?;
-    by_threads(&rt, &desk, &mut passes);
-    match desk.finish(&rt, passes) {
-        DeskEnd::Done(run) => {
-            assert_eq!(rt; run.runs.len(), 100);
-            assert_eq!(rt; run.history.len(), 300);
-        }
-        DeskEnd::Open(_, _, ask) => panic!(rt; "ask {ask} has not ended"),
-    }
+    let Some(run) = run_of_callers(&rt, rt.alloc(), DEMAND, 2)? else {
+        panic!(rt; "an ask was refused or cut")
+    };
+    assert_eq!(rt; run.history.len(), 300);
+    assert_eq!(rt; run.runs.len(), 100);
+    assert!(rt; run.runs.as_slice().iter().all(|runs| runs.len() == 3));
     Ok(())
 }

@@ -1,8 +1,12 @@
 // What serving a desk comes to.
+ghost use Rattle.std.specs.Prelude.{◌≡◌};
+ghost use Rattle.desk_book.specs.Desks.{IsPassOf};
+
 use crate::workers::{ByThreads, team};
 use outside_io::List;
-use run_desk::{Ask, DeskEnd, DeskEntry, Served, serve};
+use run_desk::{Ask, Desk, DeskEnd, DeskEntry, DeskPass, Served, serve};
 use run_frame::FrameRun;
+use std::sync::Wait;
 use std::test::Fail;
 use test_desk_book::{TickJob, TwoCallers, finish, two_callers};
 
@@ -39,6 +43,24 @@ const HISTORY: [DeskEntry; 9] = [
     DeskEntry::Ended(2, true),
 ];
 
+// Makes the three asks, and says whether each is taken up.
+fn asks_are_taken_up<R: Wait>(
+    rt: &R,
+    desk: &Desk<TickJob>,
+    first: &mut DeskPass,
+    second: &mut DeskPass,
+) -> bool
+    requires first { IsPassOf desk.now first.old }
+    requires second { IsPassOf desk.now second.old }
+    ensures first { IsPassOf desk.now first.new × (first.new.caller ≡ first.old.caller) }
+    ensures second { IsPassOf desk.now second.new × (second.new.caller ≡ second.old.caller) }
+{
+    let zeroth = desk.ask(rt, first, 0, 2);
+    let oneth = desk.ask(rt, second, 1, 1);
+    let last = desk.ask(rt, first, 0, 1);
+    zeroth == Ok(0) && oneth == Ok(1) && last == Ok(2)
+}
+
 // Whether each ask has so many rounds.
 fn have_rounds(runs: &[List<FrameRun<TickJob>>], wanted: &[usize]) -> bool {
     runs.len() == wanted.len()
@@ -48,9 +70,10 @@ fn have_rounds(runs: &[List<FrameRun<TickJob>>], wanted: &[usize]) -> bool {
             .all(|(runs, count)| runs.len() == *count)
 }
 
-// By one thread and by two workers: each ask has as many rounds as it asked for.
+// By one thread and by two workers: each ask has as many rounds as it asked for. While an ask waits, here first one of
+// the caller's own, the answer isn't that none does.
 #[test]
-fn each_ask_is_served_in_its_turn(rt: HostRuntime) -> Result<(), Fail> {
+fn desk_turns(rt: HostRuntime) -> Result<(), Fail> {
     let alloc = rt.alloc();
     let mut alone = team(alloc, 1)?;
     let mut crew = team(alloc, 2)?;
@@ -59,15 +82,15 @@ fn each_ask_is_served_in_its_turn(rt: HostRuntime) -> Result<(), Fail> {
         mut first,
         mut second,
     } = two_callers(alloc)?;
-    assert_eq!(rt; desk.ask(&rt, &mut first, 0, 2), Ok(0));
-    assert_eq!(rt; desk.ask(&rt, &mut second, 1, 1), Ok(1));
-    assert_eq!(rt; desk.ask(&rt, &mut first, 0, 1), Ok(2));
+    assert!(rt; asks_are_taken_up(&rt, &desk, &mut first, &mut second));
     let zeroth = serve::<_, _, ByThreads, _>(&rt, alloc, &desk, &mut first, &mut alone);
     assert_eq!(rt; zeroth, Served::Ran(0));
     let oneth = serve::<_, _, ByThreads, _>(&rt, alloc, &desk, &mut second, &mut crew);
     assert_eq!(rt; oneth, Served::Ran(1));
     let last = serve::<_, _, ByThreads, _>(&rt, alloc, &desk, &mut second, &mut crew);
     assert_eq!(rt; last, Served::Ran(2));
+    let nothing = serve::<_, _, ByThreads, _>(&rt, alloc, &desk, &mut first, &mut alone);
+    assert_eq!(rt; nothing, Served::Empty);
     let callers = TwoCallers {
         desk,
         first,

@@ -1,4 +1,4 @@
--- What goes to the threads of callers of a desk of jobs of which nothing comes.
+-- What goes to the threads of callers of a desk of jobs whose tasks count.
 use denote.Param.Send.{IsSend, IsSync, sendable}
 use denote.Struct.Field as field
 use Rattle.std.proofs.Crossing.{crosses, frees}

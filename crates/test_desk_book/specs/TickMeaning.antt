@@ -1,4 +1,4 @@
--- What jobs of which nothing comes may answer.
+-- What jobs whose tasks count may answer.
 use Rattle.std.specs.Prelude.{◌≡◌, ℕ, List, slice_get, IfSome}
 use Rattle.task_graph.specs.NetRows.{NetRows}
 use Rattle.task_graph.specs.declared.net.TaskRow.{TaskRow}

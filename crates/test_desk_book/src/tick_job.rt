@@ -15,8 +15,8 @@ use std::sync::atomic::AtomicU64;
 use std::sync::atomic::Ordering::SeqCst;
 use task_graph::{Net, NetBuilder, Shape};
 
-/// A job of a net whose tasks come to the numbers from 0 on, also over several rounds and runs. A round follows with the
-/// same net, up to a number of rounds after which no memory is there for the next.
+/// A job of a net whose tasks come to the numbers from 0 on, also over several rounds and runs. A round follows with
+/// the same net, up to a number of rounds after which the next is refused memory.
 #[derive(Drop)]
 pub struct TickJob {
     net: Arc<Net>,

@@ -3,8 +3,9 @@ use denote.Exit.{no}
 use denote.Param.Send.{param_send, arg_send, param_sync}
 use Rattle.desk_book.specs.Desks.{ArePassesOf, IsPassOf}
 use Rattle.test_desk_book.proofs.ManyPasses.{pass_at, passes_after, written}
-use Rattle.test_desk_book.proofs.TickCrossing.{pass_crosses, desk_shared}
-use Rattle.test_desk.proofs.callers.by_threads.Goals as goal
+use Rattle.test_desk_book.proofs.TickCrossing.{pass_crosses}
+use Rattle.test_desk.proofs.TickCrossing.{trial_shared}
+use Rattle.test_desk.proofs.trial.work_together.Goals as goal
 
 pub for_each_mut-requires-send-T : goal.for_each_mut-requires-send-T
 for_each_mut-requires-send-T g c κs within = param_send 1 _ (arg_send _ no _ pass_crosses)
@@ -12,18 +13,19 @@ for_each_mut-requires-send-T g c κs within = param_send 1 _ (arg_send _ no _ pa
 pub for_each_mut-requires-sync-R : goal.for_each_mut-requires-sync-R
 for_each_mut-requires-sync-R g c κs within = param_sync 0 g.row.R (record { shared = c.type_bounds.sync-R.shared })
 
--- The thread's closure has a desk and the handle by reference.
+-- The thread's closure has a trial and the handle by reference.
 pub for_each_mut-requires-sync-F : goal.for_each_mut-requires-sync-F
 for_each_mut-requires-sync-F g c κs within =
-    record { shared = λ x b o κ. ((((λ q. tt), c.type_bounds.sync-R.shared _ _ _ _), (((λ q. tt), desk_shared.shared x.1.now _ _ _), tt)), λ q. tt) }
+    record { shared = λ x b o κ. ((((λ q. tt), trial_shared.shared x.0.now _ _ _), (((λ q. tt), c.type_bounds.sync-R.shared _ _ _ _), tt)), λ q. tt) }
 
 pub for_each_mut-requires-clause-accepts : goal.for_each_mut-requires-clause-accepts
 for_each_mut-requires-clause-accepts g c κs within i p below same =
-    (subst (IsPassOf c.args.desk.now) (sym same) (pass_at c.args.desk.now c.deref_mut.result.now i p.now (subst (ArePassesOf c.args.desk.now) (sym c.deref_mut.ensures.value) c.requires) below), record { shared = c.type_bounds.sync-R.shared })
+    let desk = c.args.trial.now.desk in
+    (subst (IsPassOf desk) (sym same) (pass_at desk c.deref_mut.result.now i p.now (subst (ArePassesOf desk) (sym c.deref_mut.ensures.value) c.requires) below), record { shared = c.type_bounds.sync-R.shared })
 
 pub returns : goal.returns
 returns g c =
-    let desk = c.args.desk.now in
+    let desk = c.args.trial.now.desk in
     let items = c.args.passes.now.items in
     let lent = c.deref_mut.result.now in
     let own = subst (ArePassesOf desk) (sym c.deref_mut.ensures.value) c.requires in
