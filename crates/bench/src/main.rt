@@ -4,6 +4,7 @@
 
 mod asyncs;
 mod clock;
+mod desk;
 mod draws;
 mod files;
 mod frames;
@@ -27,6 +28,10 @@ fn main(rt: HostRuntime) -> io::Result<()> {
         "asyncs" => {
             let word = files::next_word(&rt, &mut words);
             asyncs::measure(&rt, rt.alloc(), word.as_str())
+        }
+        "desk" => {
+            let word = files::next_word(&rt, &mut words);
+            desk::measure(&rt, rt.alloc(), word.as_str())
         }
         "draws" => {
             let word = files::next_word(&rt, &mut words);
