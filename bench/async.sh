@@ -35,7 +35,7 @@ def milliseconds(word):
 chains, alone, one, four = [], [], [], []
 for _ in range(TURNS):
     chains.append(processor_micros())
-    alone.append(milliseconds("alone"))
+    alone.append(milliseconds("work"))
     one.append(milliseconds("1"))
     four.append(milliseconds("4"))
 print(f"two chains of 50,000 tasks, {TURNS} turns: {statistics.median(chains):.2f} microseconds of processor time a task, least {min(chains):.2f}")

@@ -31,7 +31,7 @@ pub struct AsyncBook<W: AsyncWork> {
     pub(crate) lock: KeyedLock<Shelved<W>>,
     pub(crate) ready: Arc<Ready<ReadyTask>>,
     pub(crate) alloc: Global,
-    // Whether some ready task waits in the state, since the list had no room for it.
+    // Whether some ready task may wait in the state, since the list had no room for it.
     pub(crate) left_over: AtomicBool,
 }
 

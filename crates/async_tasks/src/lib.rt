@@ -31,12 +31,13 @@
 //! a caller's `Pass`: it looks into the book, so that the pass has seen all of its rows, and adds the task. A worker's
 //! `AsyncSeat` takes a ready task in `step`: it starts it under the lock, does its work without the lock, and ends it
 //! under the lock. It names the task whose end it was given there. What becomes ready by that is put into the worker's
-//! deque at once. Where memory for that is refused the task goes back to the stack of the state, and a later step queues
-//! it.
+//! deque in the same call. Where memory for that is refused the task goes back to the stack of the state, and a later
+//! call queues it.
 //!
-//! As little as can be is done while the lock is held: the state lies in a box, which is all that the lock moves; the
-//! list of the tasks that an add names is made before; and the first task that becomes ready is queued after, when the
-//! work that ended and its inputs are dropped too.
+//! Little is done while the lock is held: the state lies in a box, which is all that the lock moves, and the list of
+//! the tasks that an add names is made before. Of the tasks that become ready one is queued after; where an end makes
+//! several ready, the others are queued under the lock. The work that ended and its inputs are dropped after. So the
+//! book calls `add_in` and `end_in` by forms of them that are given the list, and that give back what is to be dropped.
 //!
 //! `finish` gives the run where each task ended. Since a pass has seen all rows of its caller, and is given back there,
 //! the rows of each caller are just those that its pass has kept.

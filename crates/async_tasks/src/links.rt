@@ -5,7 +5,7 @@ use std::alloc::Global;
 
 /// What waits for one task, and what it waits for.
 #[derive(Drop)]
-struct Link {
+struct TaskLinks {
     over: bool,
     // How many of the tasks after which it runs aren't over, each as often as it was named.
     left: u32,
@@ -26,7 +26,7 @@ struct Edge {
 /// yet. The edges are in one list, so that an add takes no memory of its own for them.
 #[derive(Drop)]
 pub struct Links {
-    tasks: Vec<Link>,
+    tasks: Vec<TaskLinks>,
     edges: Vec<Edge>,
     ready: Option<u32>,
 }
@@ -124,7 +124,7 @@ impl Links {
 
     // Appends the task, which waits for so many.
     fn append(&mut self, id: u32, left: u32) -> Result<(), NoMemory> {
-        self.tasks.push(Link {
+        self.tasks.push(TaskLinks {
             over: false,
             left,
             newest: None,

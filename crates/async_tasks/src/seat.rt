@@ -20,7 +20,7 @@ use std::sync::{Arc, Wait};
 pub enum AsyncStep {
     /// This task was run, and ended.
     Ran(u32),
-    /// No task was ready.
+    /// The list of ready tasks was found empty.
     Empty,
 }
 
@@ -42,7 +42,7 @@ impl<W: AsyncWork> Model for AsyncSeat<W> {
 
 impl<W: AsyncWork> AsyncSeat<W> {
     /// Takes a ready task through its start, its work and its end. It may wait, and no lock is held while the work is
-    /// done. Each task that becomes ready by the end is queued at once.
+    /// done. Each task that becomes ready by the end is queued in this call, unless memory for that is refused.
     ///
     /// `Ran` names the task whose end the seat was given in this call: the book recorded it after the end that the seat
     /// had before. `Empty` only where the seat's list was found empty in this call. After an `Err` a task may be

@@ -201,7 +201,7 @@ impl<W: AsyncWork> BookState<W> {
         self.end_kept(register, started, value).0
     }
 
-    // So, and gives the work and its inputs back, which the caller drops when the lock is free.
+    // So, and gives the work and its inputs back, so that a caller may drop them when the lock is free.
     fn end_kept(
         &mut self,
         register: &Register<Outstanding<W, W::V>>,

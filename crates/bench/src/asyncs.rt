@@ -1,7 +1,7 @@
 // Books of async tasks.
-mod alone;
 mod apart;
 mod chains;
+mod work_only;
 
 use std::alloc::Global;
 use std::io;
@@ -10,8 +10,8 @@ use std::thread::Threads;
 use std::time::Clock;
 
 /// By the word `chains` two callers add 50,000 tasks each, every one after the caller's last, beside two workers. By
-/// any other, one worker, or four by the word `4`, runs 100,000 tasks of about two microseconds that wait for nothing,
-/// or by the word `alone` their work is done without a book, and it prints how long that took.
+/// the word `work` the work of 100,000 tasks of about two microseconds is done without a book. By any other, one
+/// worker, or four by the word `4`, runs such tasks, which wait for nothing. It prints how long these took.
 pub fn measure<R: Threads + Wait + Clock + Print + Sync>(
     rt: &R,
     alloc: Global,
@@ -19,7 +19,7 @@ pub fn measure<R: Threads + Wait + Clock + Print + Sync>(
 ) -> io::Result<()> {
     match word {
         "chains" => chains::measure(rt, alloc),
-        "alone" => alone::measure(rt, alloc),
+        "work" => work_only::measure(rt, alloc),
         "4" => apart::measure(rt, alloc, 4),
         _ => apart::measure(rt, alloc, 1),
     }

@@ -179,9 +179,9 @@ fn drawn_grain(count: u64, grain: u64, workers: u32) -> u64
     grain.max(count.div_ceil(most).min(1000000))
 }
 
-/// The fold of the first `count` indices by several workers, each of which draws chunks of at least `grain` indices, and
-/// of more where there would be over 64 chunks for each worker: the plain fold, whatever the grain and the workers are
-/// and however their turns fall.
+/// The fold of the first `count` indices by several workers, each of which draws chunks of at least `grain` indices,
+/// and of more, up to 1,000,000, where there would be over 64 chunks for each worker: the plain fold, whatever the
+/// grain and the workers are and however their turns fall.
 pub fn reduce_drawn<R: Threads + Sync, F: Fold + Send + Sync>(
     rt: &R,
     alloc: Global,

@@ -9,10 +9,10 @@ use std::alloc::Global;
 use std::marker::Model;
 use text_ops::{Text, end_of_first, slice_line_count};
 
-// A place is kept for each of so many lines. More places take longer to find than the walks from them do.
+// A place is kept for each of so many lines. A line is found by a walk over fewer lines than that.
 const STEP: u64 = 1024;
 
-/// A text with the places of some of its lines, by which any line is found without a walk over those before it.
+/// A text with the places of some of its lines, by which any line is found without a walk over all those before it.
 /// Contracts see it as the bytes of the text.
 #[derive(Drop)]
 pub struct LineIndex<'t> {
@@ -67,7 +67,7 @@ impl<'t> LineIndex<'t> {
     }
 
     /// The text of the lines numbered `from` to `to`, without the last of these.
-    pub fn lines(&self, from: u64, to: u64) -> &[u8]
+    pub fn lines_between(&self, from: u64, to: u64) -> &[u8]
         requires order { from ≤ to }
         requires within { to ≤ length (lines_of self.now) }
         ensures normal { IsNormal result.now }

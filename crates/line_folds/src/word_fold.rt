@@ -50,7 +50,7 @@ impl<'t> WordFold<'t> {
             (take count (drop first (lines_of self.now.text))) }
         ensures few { length (lines_of self.now.text) ≤ 18446744073709551615 }
     {
-        let lines = self.index.lines(first, first + count);
+        let lines = self.index.lines_between(first, first + count);
         self.search.lines_with(lines)
     }
 }

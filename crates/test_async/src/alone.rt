@@ -49,6 +49,17 @@ impl Alone {
         Ok(alone)
     }
 
+    /// A book with 1 after nothing, 1 after the first for two tasks, and 1 after the first, the second, the first
+    /// again and the third.
+    pub fn of_a_fork<R: Wait>(rt: &R, alloc: Global) -> Result<Alone, Refused> {
+        let mut alone = Alone::new(alloc)?;
+        alone.add(rt, alloc, 1, &[])?;
+        alone.add(rt, alloc, 1, &[0])?;
+        alone.add(rt, alloc, 1, &[0])?;
+        alone.add(rt, alloc, 1, &[0, 1, 0, 2])?;
+        Ok(alone)
+    }
+
     /// Adds a number after these tasks.
     pub fn add<R: Wait>(
         &mut self,

@@ -45,3 +45,25 @@ fn each_sum_finds_the_values_of_the_tasks_it_names(rt: HostRuntime) -> Result<()
     assert_eq!(rt; verdict_on(rt.alloc(), &run)?, Verdict::Complete);
     Ok(())
 }
+
+// 1 after nothing, two of 1 after the first, and 1 after the first, the second, the first again and the third: the end
+// of the first makes two ready.
+#[test]
+fn all_that_one_end_makes_ready_are_run(rt: HostRuntime) -> Result<(), Fail> {
+    let mut alone = Alone::of_a_fork(&rt, rt.alloc())?;
+    for _step in 0..4 {
+        assert!(rt; alone.step(&rt)? != AsyncStep::Empty);
+    }
+    assert_eq!(rt; alone.step(&rt)?, AsyncStep::Empty);
+    let Outcome::Done(run) = alone.finish(&rt, rt.alloc())? else {
+        panic!(rt; "a task has no end")
+    };
+    for (task, value) in [(0, 1), (1, 2), (2, 2), (3, 7)] {
+        assert!(rt;
+            run.value(task).is_some_and(|found| **found == value),
+            "task {task}"
+        );
+    }
+    assert_eq!(rt; verdict_on(rt.alloc(), &run)?, Verdict::Complete);
+    Ok(())
+}

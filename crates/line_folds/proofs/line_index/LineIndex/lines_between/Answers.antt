@@ -1,5 +1,5 @@
 use Rattle.line_folds.proofs.LinesBetween.{behind_within, between_lines, between_normal}
-use Rattle.line_folds.proofs.line_index.LineIndex.lines.Goals as goal
+use Rattle.line_folds.proofs.line_index.LineIndex.lines_between.Goals as goal
 
 pub slice_bounds-result-count : goal.slice_bounds-result-count
 slice_bounds-result-count c =
