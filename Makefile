@@ -4,7 +4,7 @@ PREFIX ?= $(HOME)/.local
 # Not every shell puts the home folder where ~ stands behind a =.
 override PREFIX := $(patsubst ~/%,$(HOME)/%,$(PREFIX))
 .SHELLFLAGS := -euo pipefail -c
-.PHONY: all program install uninstall demo examples test docs pictures fuzz gate-times
+.PHONY: all program install uninstall demo examples test docs pictures fuzz soak gate-times
 
 # Proves every crate, the lowest first, and builds the program.
 all:
@@ -68,6 +68,11 @@ pictures:
 # the cases of an earlier call again.
 fuzz: program
 	@bash tools/fuzz.sh $(SEED)
+
+# Random graphs on the built program while it is stopped, continued and held to one processor, fifteen minutes of each of
+# four tools; no part of the gate. `make soak SEED=N` makes the cases of an earlier call again.
+soak: program
+	@bash tools/soak.sh $(SEED)
 
 # Whether the documents, the manual page and the completion say what there is. It says nothing where they do.
 docs:

@@ -526,6 +526,21 @@ echo 'flow: fault b: long 18874368' >"$seen/wanted_notes"
 call run graph.json
 compare 'a value that would be too long' 9 "$seen/wanted_out" "$seen/wanted_notes"
 
+# A task that doesn't wait for the one that faults: it has ended before, or it is dropped. Each is a whole run.
+printf '1\n2\n3\n4\n5\n' >five.txt
+echo "{\"tasks\":[$(read_to a '"b","b"'),$(task b pass),$(task c read '"text":"five.txt","to":["d"]'),$(task d count)]}" >graph.json
+for workers in 1 4 16; do
+    call run graph.json --workers "$workers"
+    if grep -qx -- '-- d' "$seen/out"; then sink='-- d'; else sink='== d\n5'; fi
+    printf -- "-- b\n$sink\n!! fault b: long 18874368\n" >"$seen/wanted_out"
+    compare "a fault beside a sink by $workers workers" 9 "$seen/wanted_out" "$seen/wanted_notes"
+    call run graph.json --workers "$workers" --journal
+    cp "$seen/out" journal.txt
+    echo complete >"$seen/wanted_out"
+    call judge graph.json journal.txt
+    compare "the judgement of a fault beside a sink by $workers workers" 0 "$seen/wanted_out" /dev/null
+done
+
 # As many parts as there may be, and one more; faults, limits and waiting tasks inside modules; modules that run themselves.
 spread="$(read_to a '"b"'),$(task b spread '"n":1,"each":{"op":"count"}')"
 (yes x || true) | head -n 65536 >t.txt
