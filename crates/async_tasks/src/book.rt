@@ -7,6 +7,7 @@ ghost use Rattle.async_tasks.specs.AsyncBooks.{IsPassOf, HasAdded};
 ghost use Rattle.async_tasks.specs.Passes.{seen, kept, LooksAgain};
 ghost use Rattle.async_tasks.specs.Starts.{IsAfter};
 
+use crate::gate::Gate;
 use crate::outstanding::Outstanding;
 use crate::pass::Pass;
 use crate::ready_task::ReadyTask;
@@ -33,6 +34,8 @@ pub struct AsyncBook<W: AsyncWork> {
     pub(crate) alloc: Global,
     // Whether some ready task may wait in the state, since the list had no room for it.
     pub(crate) left_over: AtomicBool,
+    // Before the lock.
+    pub(crate) gate: Gate,
 }
 
 impl<W: AsyncWork> Drop for AsyncBook<W> {
@@ -43,8 +46,9 @@ impl<W: AsyncWork> Drop for AsyncBook<W> {
             ready,
             alloc: _,
             left_over,
+            gate,
         } = self;
-        drop((register, lock, ready, left_over));
+        drop((register, lock, ready, left_over, gate));
     }
 }
 
@@ -91,6 +95,7 @@ impl<W: AsyncWork> AsyncBook<W> {
         };
         let caller = pass.caller;
         let listed = List::from_slice(self.alloc, after);
+        self.gate.enter(rt);
         let Held {
             value: mut shelved,
             pass: lock_pass,
@@ -103,6 +108,7 @@ impl<W: AsyncWork> AsyncBook<W> {
             value: shelved,
             pass: lock_pass,
         });
+        self.gate.leave();
         pass.ticket = Some(ticket);
         self.inject(rt, ready);
         answer
@@ -131,6 +137,7 @@ impl<W: AsyncWork> AsyncBook<W> {
 
     // Gives a ready task back to the state. It is left over.
     fn put_back<R: Wait>(&self, rt: &R, task: u32) {
+        self.gate.enter(rt);
         let Held {
             value: mut shelved,
             pass,
@@ -140,6 +147,7 @@ impl<W: AsyncWork> AsyncBook<W> {
             value: shelved,
             pass,
         });
+        self.gate.leave();
         self.left_over.store(true, SeqCst);
     }
 
@@ -181,6 +189,7 @@ impl<W: AsyncWork> AsyncBook<W> {
         if !self.left_over.load(SeqCst) || !self.left_over.swap(false, SeqCst) {
             return Ok(false);
         }
+        self.gate.enter(rt);
         let Held {
             value: mut shelved,
             pass,
@@ -190,6 +199,7 @@ impl<W: AsyncWork> AsyncBook<W> {
             value: shelved,
             pass,
         });
+        self.gate.leave();
         match pushed {
             Ok(()) => Ok(true),
             Err(error) => Err(error),
@@ -202,6 +212,7 @@ impl<W: AsyncWork> AsyncBook<W> {
         ensures { IfOk result
             (λ answer. IfSome answer (λ started. started.register ≡ self.now.register)) }
     {
+        self.gate.enter(rt);
         let Held {
             value: mut shelved,
             pass,
@@ -211,6 +222,7 @@ impl<W: AsyncWork> AsyncBook<W> {
             value: shelved,
             pass,
         });
+        self.gate.leave();
         started
     }
 
@@ -233,6 +245,7 @@ impl<W: AsyncWork> AsyncBook<W> {
             × (result.task ≡ started.task) }
         ensures later { IsAfter last result.place }
     {
+        self.gate.enter(rt);
         let Held {
             value: mut shelved,
             pass,
@@ -246,6 +259,7 @@ impl<W: AsyncWork> AsyncBook<W> {
             value: shelved,
             pass,
         });
+        self.gate.leave();
         self.push(rt, owner, first);
         end
     }

@@ -7,9 +7,11 @@ ghost use Rattle.async_tasks.specs.Books.{key_of, book_key};
 ghost use Rattle.async_tasks.specs.AsyncBooks.{ArePassesOf, AreFirstPasses, IsSeatOf, IsNewSeatOf, async_book_state, caller_limit, counts_of};
 
 use crate::book::AsyncBook;
+use crate::gate::Gate;
 use crate::opening::Opening;
 use crate::outstanding::Outstanding;
 use crate::pass::Pass;
+use crate::patience::Patience;
 use crate::ready_task::ReadyTask;
 use crate::seat::AsyncSeat;
 use crate::shelved::Shelved;
@@ -59,6 +61,7 @@ impl<W: AsyncWork> AsyncBook<W> {
             ready,
             alloc,
             left_over: AtomicBool::new(false),
+            gate: Gate::new(),
         };
         Ok(AsyncParts {
             book,
@@ -108,6 +111,7 @@ fn seats_of<W: AsyncWork>(
             alloc,
             owner,
             last: None,
+            patience: Patience::new(),
         })?;
     }
     Ok(seats)

@@ -5,6 +5,7 @@ ghost use Rattle.async_tasks.specs.AsyncBooks.{IsSeatOf, HasStepped, HasRun};
 ghost use Rattle.async_tasks.specs.declared.seat.AsyncStep.TheVariants.{Ran, Empty};
 
 use crate::book::AsyncBook;
+use crate::patience::Patience;
 use crate::ready_task::ReadyTask;
 use crate::recorded_end::RecordedEnd;
 use crate::started::Started;
@@ -30,6 +31,7 @@ pub struct AsyncSeat<W: AsyncWork> {
     pub(crate) alloc: Global,
     pub(crate) owner: Owner<ReadyTask>,
     pub(crate) last: Option<RecordedEnd<W>>,
+    pub(crate) patience: Patience,
 }
 
 impl<W: AsyncWork> Model for AsyncSeat<W> {
@@ -46,20 +48,24 @@ impl<W: AsyncWork> AsyncSeat<W> {
     ///
     /// `Ran` names the task whose end the seat was given in this call: the book recorded it after the end that the seat
     /// had before. `Empty` only where the seat's list was found empty in this call. After an `Err` a task may be
-    /// started and have no end for good; its work is at its number.
+    /// started and have no end for good; its work is at its number. A seat that found nothing in its last sixteen steps
+    /// sleeps for some fifty microseconds first.
     pub fn step<R: Wait>(&mut self, rt: &R, book: &AsyncBook<W>) -> Result<AsyncStep, NoMemory>
         requires { IsSeatOf book.now self.old }
         ensures same { IsSeatOf book.now self.new }
         ensures stepped { IfOk result (λ step. HasStepped book.now self.old step self.new) }
         ensures err { OnErr result (self.new.last ≡ self.old.last) }
     {
+        self.patience.wait(rt);
         for _ in rt.forever() {
             let Some(item) = self.owner.take(rt) else {
                 if book.push_left_over(rt, &mut self.owner)? {
                     continue;
                 }
+                self.patience.missed();
                 return Ok(AsyncStep::Empty);
             };
+            self.patience.found();
             match book.start(rt, item.task) {
                 Ok(Some(started)) => return self.carry_out(rt, book, started),
                 Ok(None) => (),
