@@ -168,7 +168,8 @@ fn gather_all<F: Fold>(
 // So many chunks for each worker let a slow one take fewer. More of them take longer to draw, to begin and to join.
 const CHUNKS_FOR_EACH: u64 = 64;
 
-// How many indices are drawn at once: `grain`, or more where there would be too many chunks.
+// How many indices are drawn at once: `grain`, or a multiple of it where there would be too many chunks. So each chunk
+// begins where one of `grain` indices would.
 fn drawn_grain(count: u64, grain: u64, workers: u32) -> u64
     requires some { 1 ≤ workers }
     requires few { workers ≤ 16 }
@@ -176,7 +177,12 @@ fn drawn_grain(count: u64, grain: u64, workers: u32) -> u64
     ensures { (grain ≤ result) × (result ≤ 1000000) }
 {
     let most = u64::from(workers) * CHUNKS_FOR_EACH;
-    grain.max(count.div_ceil(most).min(1000000))
+    let least = count.div_ceil(most).min(1000000);
+    let past = least % grain;
+    if past == 0 {
+        return grain.max(least);
+    }
+    grain.max((least - past + grain).min(1000000))
 }
 
 /// The fold of the first `count` indices by several workers, each of which draws chunks of at least `grain` indices,

@@ -2,7 +2,7 @@
 //!
 //! `count_lines_with` counts the lines in which a word occurs, by several workers that draw chunks of lines. It is the
 //! fold `WordFold`, which has a line for each index: 1 where the word occurs in it, else 0. A chunk is searched in one
-//! go. Where it begins and ends is found by a `LineIndex`, which keeps the place of each 1,024th line.
+//! go. Where it begins and ends is found by a `LineIndex`, which keeps the place of each 1,000th line.
 //!
 //! `specs/WordFolds.antt` says what the fold computes.
 #![tactic(auto)]

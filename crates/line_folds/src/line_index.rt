@@ -10,7 +10,7 @@ use std::marker::Model;
 use text_ops::{Text, end_of_first, slice_line_count};
 
 // A place is kept for each of so many lines. A line is found by a walk over fewer lines than that.
-const STEP: u64 = 1024;
+const STEP: u64 = 1000;
 
 /// A text with the places of some of its lines, by which any line is found without a walk over all those before it.
 /// Contracts see it as the bytes of the text.
@@ -18,7 +18,7 @@ const STEP: u64 = 1024;
 pub struct LineIndex<'t> {
     text: &'t [u8],
     lines: u64,
-    // Where each 1,024th line begins, the first one's place first.
+    // Where each 1,000th line begins, the first one's place first.
     marks: Vec<usize>,
 }
 
@@ -35,7 +35,7 @@ impl<'t> Model for LineIndex<'t> {
 }
 
 impl<'t> LineIndex<'t> {
-    /// The index of a text. It takes a word of memory for 1,024 lines.
+    /// The index of a text. It takes a word of memory for 1,000 lines.
     pub fn new(alloc: Global, text: &'t Text) -> Result<LineIndex<'t>, NoMemory>
         ensures index { IfOk result (λ index. index ≡ text.entry.now) }
         ensures few { IfOk result (λ _. length (lines_of text.entry.now) ≤ 18446744073709551615) }
@@ -78,7 +78,7 @@ impl<'t> LineIndex<'t> {
         &rest[..rest.len() - behind.len()]
     }
 
-    // Where the line numbered 1,024 * `k` begins, if the text has it.
+    // Where the line numbered 1,000 * `k` begins, if the text has it.
     fn mark(&self, k: u64) -> Option<usize>
         ensures found { IfSome result (IsCut self.now (k * mark_step)) }
         ensures none { IfNone result (length (lines_of self.now) ≤ k * mark_step) }
@@ -99,7 +99,7 @@ fn lines_by_marks(text: &[u8], marks: &[usize]) -> u64
     }
 }
 
-// Where each 1,024th line of a text begins.
+// Where each 1,000th line of a text begins.
 fn marks_of(alloc: Global, text: &[u8]) -> Result<Vec<usize>, NoMemory>
     requires { IsNormal text.now }
     ensures { IfOk result (λ marks. AreLineMarks text.now marks.items) }

@@ -100,6 +100,27 @@ pub fn count_lines_with<R: Threads + Sync>(
     requires grain { (1 ≤ grain) × (grain ≤ 1000000) }
     ensures { IfOk result (λ lines. lines ≡ word_lines word.now text.now) }
 {
+    if workers == 1 {
+        // It has nobody to share the lines with, so no line's place is looked for.
+        return Ok(WordSearch::new(word).lines_with(text.as_slice()));
+    }
+    count_by_chunks(rt, alloc, workers, word, text, grain)
+}
+
+// So by workers that draw chunks of lines.
+fn count_by_chunks<R: Threads + Sync>(
+    rt: &R,
+    alloc: Global,
+    workers: u32,
+    word: &[u8],
+    text: &Text,
+    grain: u64,
+) -> Result<u64, NoMemory>
+    requires workers { (1 ≤ workers) × (workers ≤ 16) }
+    requires short { length text.now ≤ 1099511627776 }
+    requires grain { (1 ≤ grain) × (grain ≤ 1000000) }
+    ensures { IfOk result (λ lines. lines ≡ word_lines word.now text.now) }
+{
     let fold = WordFold::new(alloc, word, text)?;
     let count = fold.count();
     match reduce_drawn(rt, alloc, workers, &fold, count, grain) {

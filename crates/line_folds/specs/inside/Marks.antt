@@ -5,9 +5,9 @@ use Rattle.text_ops.specs.LineParts.{IsCut}
 
 -- a place is kept for each of so many lines
 abbrev pub mark_step : ℕ
-mark_step = 1024
+mark_step = 1000
 
--- The lines numbered 0, 1,024, 2,048 and so on begin at these places, and there are places for these lines and no more.
+-- The lines numbered 0, 1,000, 2,000 and so on begin at these places, and there are places for these lines and no more.
 pub record AreLineMarks (text : List ℕ) (marks : List ℕ) : Type 0 where
   pub each : (k : ℕ) → k < length marks → IsCut text (k * mark_step) (slice_index marks k)
   pub all : length (lines_of text) ≤ length marks * mark_step

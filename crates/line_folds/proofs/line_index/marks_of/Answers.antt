@@ -12,7 +12,7 @@ use Rattle.line_folds.proofs.line_index.marks_of.Goals.{After-end_of_first-at}
 pub end_of_first-at-requires : goal.end_of_first-at-requires
 end_of_first-at-requires c = IsNormal-behind c.args.text.now c.loop-at.at c.requires
 
--- the next 1,024 lines end behind the place
+-- the next 1,000 lines end behind the place
 next_cut : (c : After-end_of_first-at) → IsCut (drop c.loop-at.at c.args.text.now) mark_step c.end_of_first-at.result
 next_cut c = subst (λ rest. IsCut rest mark_step c.end_of_first-at.result) (behind c.args.text.now c.loop-at.at) c.end_of_first-at.ensures
 

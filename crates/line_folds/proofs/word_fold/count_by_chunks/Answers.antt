@@ -3,7 +3,7 @@ use Rattle.text_ops.specs.Lines.{lines_of}
 use Rattle.line_folds.specs.WordFolds.{WordText}
 use Rattle.line_folds.proofs.MarkLemmas.{lines_le}
 use Rattle.line_folds.proofs.WordFoldLemmas.{counts_all_lines}
-use Rattle.line_folds.proofs.word_fold.count_lines_with.Goals as goal
+use Rattle.line_folds.proofs.word_fold.count_by_chunks.Goals as goal
 
 pub reduce_drawn-requires-clause-count : goal.reduce_drawn-requires-clause-count
 reduce_drawn-requires-clause-count g c κs within =
