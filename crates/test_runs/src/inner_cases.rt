@@ -14,6 +14,7 @@ three runs beside each other: nnnp ad bd cd / ppp ab bc -> starts 13
 parts beside each other: pnp ab bc / pppppppp -> starts 11
 two parts that meet: pnp ab bc / pp, meeting 2 -> starts 5
 a run that begins by tokens: pnp ab bc / pp bb ab* -> starts 4
+three tokens to a task with a run inside: ppcn ab bc cb bd / p, turns 6 -> starts 13
 runs that hold the one unit in turn: 1kkkp ad bd cd / ppp ab bc -> starts 13";
 
 // Runs inside that are cut short.

@@ -14,6 +14,7 @@ three values in one loop, whose conditions hold the unit: 1pddddp ab ac ad be ce
 const GIVEN_BACK: &str = "\
 a unit that others give back: 1ttttgggg ae bf cg dh -> starts 8
 two units that others give back, and tasks that hold one: 2ttttgggguuuu ae bf cg dh -> starts 12
+three tokens to a task that waits for its unit: 1tpcug ab bc cb bd ae, turns 6 -> starts 11
 three tokens to a task whose unit another gives back: 1pcccctg ab ac ad be ce de ef fg, turns 9 -> starts 13
 a unit that is taken and given back in turn: 1tg ab ba*, limit 20 -> starts 20";
 
