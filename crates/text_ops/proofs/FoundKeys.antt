@@ -28,7 +28,7 @@ use Rattle.text_ops.proofs.OrderLemmas.{IsUpTo-refl, IsUpTo-antisym}
 use Rattle.text_ops.proofs.SortedKeys.{leads, pieces_rise, keyed_piece-sort_key_at, bytes_keyed}
 
 -- sort keys stand from their place on
-starts : (from at : ℕ) (lines : List (List ℕ)) → from ≤ at → All (λ (m : SortKeyRow). from ≤ m.start) (sort_keys_of Key at lines)
+pub starts : (from at : ℕ) (lines : List (List ℕ)) → from ≤ at → All (λ (m : SortKeyRow). from ≤ m.start) (sort_keys_of Key at lines)
 starts from at [] le = All-nil (λ (m : SortKeyRow). from ≤ m.start)
 starts from at (line ∷ lines) le =
     All-cons (λ (m : SortKeyRow). from ≤ m.start) (sort_key_at Key at line) (sort_keys_of Key (at + (length line + 1)) lines) le (starts from (at + (length line + 1)) lines (omega arith))
@@ -37,10 +37,10 @@ next : (text : List ℕ) (at : ℕ) (line : List ℕ) (lines : List (List ℕ)) 
 next text at line lines rest = let place : at + length line + 1 ≡ at + (length line + 1) = omega arith in ap (λ n. drop n text) (sym place) ∙ next_rest text at line lines rest
 
 -- the line of the first sort key with the key
-abbrev NotBefore : List ℕ → List ℕ → SortKeyRow → SortKeyRow → Type 0
+abbrev pub NotBefore : List ℕ → List ℕ → SortKeyRow → SortKeyRow → Type 0
 NotBefore text key sort_key other = keyed_piece text other ≡ key → sort_key.start ≤ other.start
 
-find_first : (text key : List ℕ) (sort_key : SortKeyRow) (at : ℕ) (lines : List (List ℕ)) → drop at text ≡ text_of lines → AllByRecursion IsPlain lines → keyed_piece text sort_key ≡ key → All (NotBefore text key sort_key) (sort_keys_of Key at lines) → Contains (sort_keys_of Key at lines) sort_key → option_map behind_key (first_with key lines) ≡ Some (behind_sort_key text sort_key)
+pub find_first : (text key : List ℕ) (sort_key : SortKeyRow) (at : ℕ) (lines : List (List ℕ)) → drop at text ≡ text_of lines → AllByRecursion IsPlain lines → keyed_piece text sort_key ≡ key → All (NotBefore text key sort_key) (sort_keys_of Key at lines) → Contains (sort_keys_of Key at lines) sort_key → option_map behind_key (first_with key lines) ≡ Some (behind_sort_key text sort_key)
 find_first text key sort_key at [] rest plain is least has = absurd (omega (arith, has.1))
 find_first text key sort_key at (line ∷ lines) rest plain is least has =
     let m0 = sort_key_at Key at line in
@@ -70,7 +70,7 @@ find_first text key sort_key at (line ∷ lines) rest plain is least has =
     behind (suc k) low one differs = (k, omega arith, one)
 
 -- no line has a key that no sort key stands for
-find_none : (text key : List ℕ) (at : ℕ) (lines : List (List ℕ)) → drop at text ≡ text_of lines → All (λ m. keyed_piece text m ≢ key) (sort_keys_of Key at lines) → first_with key lines ≡ None
+pub find_none : (text key : List ℕ) (at : ℕ) (lines : List (List ℕ)) → drop at text ≡ text_of lines → All (λ m. keyed_piece text m ≢ key) (sort_keys_of Key at lines) → first_with key lines ≡ None
 find_none text key at [] rest none = refl
 find_none text key at (line ∷ lines) rest none =
     let m0 = sort_key_at Key at line in

@@ -23,6 +23,8 @@ pub mod CountedSteps
 pub mod NumberLemmas
 pub mod MatchLemmas
 pub mod FoundKeys
+pub mod SlotLemmas
+pub mod KeySlotLemmas
 pub mod MatchSteps
 pub mod HasWordLemmas
 pub mod LawLemmas

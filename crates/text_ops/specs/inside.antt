@@ -4,6 +4,7 @@ pub mod Gathering
 pub mod Keeping
 pub mod SortKeys
 pub mod Matching
+pub mod KeySlots
 pub mod Tallying
 pub mod Counting
 pub mod Repeating

@@ -17,6 +17,7 @@ mod found_line;
 mod gathered;
 mod joined;
 mod kept_lines;
+mod key_slots;
 mod laws;
 mod line_ends;
 mod line_runs;

@@ -7,12 +7,14 @@ ghost use Rattle.text_ops.specs.TextMeaning.{match_meaning};
 ghost use Rattle.text_ops.specs.Values.{Makes};
 ghost use Rattle.text_ops.specs.declared.sort_key.Piece.TheVariants.{Key as KeyPiece};
 ghost use Rattle.text_ops.specs.inside.SortKeys.{AreSortedKeys, lead_of};
+ghost use Rattle.text_ops.specs.inside.KeySlots.{LeadToFirst};
 ghost use Rattle.text_ops.specs.inside.Matching.{IsFirstPlace, behind_sort_key, is_before};
 
 use crate::gathered::{ApplyError, Gathered};
+use crate::key_slots::{Found, filled_slots, look_up};
 use crate::line_walk::Lines;
 use crate::sort_key::{Offset, Piece, SortKey};
-use crate::sort_keys::{keyed_piece, lead, match_key, sorted_keys};
+use crate::sort_keys::{keyed_piece, lead, match_key, sort_keys_of, sorted_keys};
 use crate::text::Text;
 use memchr::memchr;
 use std::alloc::Global;
@@ -35,6 +37,61 @@ fn match_by_sort_keys<O: Offset>(
     left: &[u8],
     right: &[u8],
 ) -> Result<Text, ApplyError>
+    requires left { IsNormal left.now }
+    requires right { IsNormal right.now }
+    requires short { length right.now ≤ O.most }
+    ensures { Makes (match_meaning left.now right.now) result }
+{
+    let sort_keys = sort_keys_of::<O>(alloc, right, Piece::Key)?;
+    let sort_keys = sort_keys.as_slice();
+    match filled_slots(alloc, right, sort_keys)? {
+        Some(slots) => match_by_slots(alloc, left, right, sort_keys, slots.as_slice()),
+        None => match_in_order::<O>(alloc, left, right),
+    }
+}
+
+// The same, where slots lead to the first line with a key.
+fn match_by_slots<O: Offset>(
+    alloc: Global,
+    left: &[u8],
+    right: &[u8],
+    sort_keys: &[SortKey<O>],
+    slots: &[u32],
+) -> Result<Text, ApplyError>
+    requires left { IsNormal left.now }
+    requires right { IsNormal right.now }
+    requires slots { LeadToFirst right.now sort_keys.now slots.now }
+    ensures { Makes (match_meaning left.now right.now) result }
+{
+    let mut made = Gathered::new(alloc);
+    for line in Lines::new(left) {
+        if let Some(rest) = behind_found(right, sort_keys, slots, match_key(line)) {
+            made.add_line(line, rest)?;
+        }
+    }
+    made.finish(alloc)
+}
+
+// What follows this key in the first line that has it, by slots.
+fn behind_found<'t, O: Offset>(
+    text: &'t [u8],
+    sort_keys: &[SortKey<O>],
+    slots: &[u32],
+    key: &[u8],
+) -> Option<&'t [u8]>
+    requires slots { LeadToFirst text.now sort_keys.now slots.now }
+    requires normal { IsNormal text.now }
+    ensures { option_copied result
+        ≡ option_map behind_key (first_with key.now (lines_of text.now)) }
+{
+    let Found::Row(row) = look_up(text, sort_keys, slots, key) else {
+        return None;
+    };
+    Some(behind(text, sort_keys.get(row)?))
+}
+
+// The same as `match_by_sort_keys`, by a search in the order of keys.
+fn match_in_order<O: Offset>(alloc: Global, left: &[u8], right: &[u8]) -> Result<Text, ApplyError>
     requires left { IsNormal left.now }
     requires right { IsNormal right.now }
     requires short { length right.now ≤ O.most }

@@ -109,7 +109,7 @@ fn piece_of(by: Piece, line: &[u8]) -> &[u8]
 }
 
 // The sort keys in the order of the lines.
-fn sort_keys_of<O: Offset>(
+pub(crate) fn sort_keys_of<O: Offset>(
     alloc: Global,
     text: &[u8],
     by: Piece,
