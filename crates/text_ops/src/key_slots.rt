@@ -11,6 +11,9 @@ use std::hash::{FoldHasher, Hasher};
 // So many slots are looked at, from the one that a key's hash names.
 const PROBES: usize = 16;
 
+// So many slots there are for each line: with fewer, 16 that follow one another would often be taken.
+const SLOTS: usize = 8;
+
 // What a search for a key finds.
 #[derive(Clone, Copy)]
 pub(crate) enum Found {
@@ -36,7 +39,7 @@ pub(crate) fn filled_slots<O: Offset>(
     if count >= 1 << 31 {
         return Ok(None);
     }
-    let mut slots = vec![in alloc; u32::MAX; 2 * count + PROBES]?;
+    let mut slots = vec![in alloc; u32::MAX; SLOTS * count + PROBES]?;
     for row in 0..count {
         if !fill(text, rows, &mut slots, row) {
             return Ok(None);
