@@ -14,6 +14,9 @@ const PROBES: usize = 16;
 // So many slots there are for each line: with fewer, 16 that follow one another would often be taken.
 const SLOTS: usize = 8;
 
+// For more sort keys slots would take more memory than a search in order is worth: at most 128 MB.
+const MOST_ROWS: usize = 1 << 22;
+
 // What a search for a key finds.
 #[derive(Clone, Copy)]
 pub(crate) enum Found {
@@ -26,7 +29,7 @@ pub(crate) enum Found {
 }
 
 /// Slots that lead from the hash of each key to the first of the sort keys that stand for it. A free slot names no sort
-/// key. `None`: too many keys have hashes that lead to the same slots.
+/// key. `None`: too many keys have hashes that lead to the same slots, or there are too many sort keys.
 pub(crate) fn filled_slots<O: Offset>(
     alloc: Global,
     text: &[u8],
@@ -36,7 +39,7 @@ pub(crate) fn filled_slots<O: Offset>(
         AreFilled text.now rows.now slots.items (length rows.now))) }
 {
     let count = rows.len();
-    if count >= 1 << 31 {
+    if count > MOST_ROWS {
         return Ok(None);
     }
     let mut slots = vec![in alloc; u32::MAX; SLOTS * count + PROBES]?;
@@ -83,6 +86,7 @@ fn fill<O: Offset>(text: &[u8], rows: &[SortKey<O>], slots: &mut [u32], row: usi
 {
     let key = keyed_piece(text, &rows[row]);
     match look_up(text, rows, slots, key) {
+        // It always is: slots name only sort keys before this one. The comparison says so to the proof.
         Found::Row(first) => first <= row,
         Found::Free(at) => {
             slots[at] = row as u32;
