@@ -17,7 +17,7 @@ const TAKEN: u64 = 1;
 const SPINS: u32 = 40;
 
 // How often a call looks before it sleeps, for how many microseconds, and how often it does so before it goes on anyway.
-const LOOKS: u32 = 5;
+const LOOKS: u32 = 12;
 
 const NAP: u64 = 50;
 
