@@ -1,0 +1,71 @@
+CRATE = "table_frames"
+E = []
+def e(label, file, old, new, *only):
+    E.append((label, "src/" + file + ".rt", old, new, [f"{file}::{o}" if "::" not in o else o for o in only]))
+
+# by one thread
+e("run_alone: watcher's own count taken from 0", "alone", "    if begun.fresh.is_empty() {\n        return begun.kept.finish();\n    }", "    if begun.fresh.len() <= 1 {\n        return begun.kept.finish();\n    }", "run_alone")
+e("alone: depth of a span is always 0", "alone", "tell(watcher, turn.spent.fate(), bench.depth)?;", "tell(watcher, turn.spent.fate(), 0)?;", "conclude")
+e("alone: the span of a fate is told twice", "alone", "tell(watcher, turn.spent.fate(), bench.depth)?;", "tell(watcher, turn.spent.fate(), bench.depth)?;\n    tell(watcher, turn.spent.fate(), bench.depth)?;", "conclude")
+e("alone: what is woken is lost", "alone", "    wake_turns(&mut bench.yard, back, &mut bench.made);\n    add_all", "    let _ = back;\n    add_all", "conclude")
+e("alone: oldest first", "alone", "    while let Some(fresh) = made.pop() {\n        ready.push_reserved(fresh);\n    }", "    made.reverse();\n    while let Some(fresh) = made.pop() {\n        ready.push_reserved(fresh);\n    }", "add_all")
+e("alone: what a step made is dropped", "alone", "    wake_turns(&mut bench.yard, back, &mut bench.made);\n    add_all(&mut bench.ready, &mut bench.made);", "    wake_turns(&mut bench.yard, back, &mut bench.made);\n    bench.made.clear();", "conclude")
+e("alone: turn isn't gathered", "alone", "    run.gather(&mut bench.done, turn);\n    wake_turns", "    drop(turn);\n    wake_turns", "conclude")
+e("alone: parked, the next release of its task is lost", "alone", "            add_again(&mut bench.made, again);\n            add_all(&mut bench.ready, &mut bench.made);\n            Ok(None)", "            drop(again);\n            add_all(&mut bench.ready, &mut bench.made);\n            Ok(None)", "park")
+e("alone settle: a release that goes is dropped", "alone", "        Settled::Goes(ready) => bench.ready.push_reserved(ready),", "        Settled::Goes(ready) => drop(ready),", "settle")
+e("alone settle: drops are lost", "alone", "        Settled::Over(spent) => run.gather(&mut bench.done, DoneTurn { spent, inner: None }),", "        Settled::Over(spent) => drop(spent),", "settle")
+# level
+e("level open: the inner run has the depth of its own", "level", "let depth = bench.depth.saturating_add(1);", "let depth = bench.depth;", "Level::open")
+e("level open: the next release of the task is lost", "level", "        add_again(&mut bench.ready, again);\n", "        drop(again);\n", "Level::open")
+e("level: the outermost run answered for an inner one", "level", "    let Some(start) = start else {\n        return Ok(Next::Run(run));\n    };", "    let Some(start) = start else {\n        return Ok(Next::Run(run));\n    };\n    if around.is_none() {\n        return Ok(Next::Run(run));\n    }", "leave")
+e("keep_done: More taken for All", "level", "        Remaining::More => Ok(false),", "        Remaining::More => Ok(true),", "keep_done")
+e("keep_done: All taken for More", "level", "        Remaining::All => Ok(true),", "        Remaining::All => Ok(false),", "keep_done")
+e("step_newest: the oldest release", "level", "let Some(ready) = bench.ready.pop() else {", "bench.ready.reverse();\n    let Some(ready) = bench.ready.pop() else {", "step_newest")
+# backlog, batch
+e("Backlog::is_brought says is_empty", "backlog", "        self.batch.is_brought()\n", "        self.batch.is_empty()\n", "Backlog::is_brought")
+e("newest_span: the first fate", "frame_batch", "self.done.batch.fates().last()?", "self.done.batch.fates().first()?", "FrameBatch::newest_span")
+e("newest_span: depth 0", "frame_batch", "Some(frame) => span_of(newest, frame.depth()),", "Some(_) => span_of(newest, 0),", "FrameBatch::newest_span")
+e("add: the run that came back is forgotten", "frame_batch", "        self.returned = returned.or(self.returned.take());\n", "        drop(returned);\n", "FrameBatch::add")
+e("add: an older run that came back wins", "frame_batch", "returned.or(self.returned.take())", "self.returned.take().or(returned)", "FrameBatch::add")
+e("bring: the frame is forgotten after a bringing", "frame_batch", "                self.frame = Some(frame);\n                Ok(kept)", "                Ok(kept)", "FrameBatch::bring")
+e("bring: after no memory the frame is forgotten", "frame_batch", "            Err(NoMemory) => {\n                self.frame = Some(frame);\n                Err(NoMemory)", "            Err(NoMemory) => {\n                drop(frame);\n                Err(NoMemory)", "FrameBatch::bring")
+e("settle: drops are left out", "frame_batch", "                frame.gather(&mut self.done, spent);\n                self.frame = Some(frame);\n                Ok(None)", "                drop(spent);\n                Ok(None)", "FrameBatch::settle")
+e("settle: the released one is dropped", "frame_batch", "            Settled::Goes(ready) => Ok(Some(Release { frame, ready })),", "            Settled::Goes(_) => Ok(None),", "FrameBatch::settle")
+e("make_room: another frame's", "frame_batch", "        if self.frame.is_none() {\n            self.frame = Some(Arc::try_clone(frame)?);\n        }", "        self.frame = Some(Arc::try_clone(frame)?);", "FrameBatch::make_room")
+# frame
+e("frame new: depth of the parent", "frame", "        self.depth.saturating_add(1)\n", "        self.depth\n", "Frame::depth_below")
+e("park_turn: the yard is put back before parking (place 0)", "frame", "let parking = self.run.park(&mut yard, turn, place, woken_for, made);", "let parking = self.run.park(&mut yard, turn, place, None, made);", "Frame::park_turn")
+e("conclude: wakes nothing", "frame", "        batch.add(&self.run, turn, returned);\n        self.wake(rt, back, made);", "        batch.add(&self.run, turn, returned);\n        let _ = (rt, back);", "Frame::conclude")
+e("conclude: wakes before the end (units not back)", "frame", "        let turn = self.run.conclude(attempt, made);\n        batch.add(&self.run, turn, returned);\n        self.wake(rt, back, made);", "        self.wake(rt, back, made);\n        let turn = self.run.conclude(attempt, made);\n        batch.add(&self.run, turn, returned);", "Frame::conclude")
+e("wake: the first semaphore only", "frame", "        wake_turns(&mut yard, sems, made);\n", "        wake_turns(&mut yard, &sems[..1], made);\n", "Frame::wake")
+e("settle_parked: never", "frame", "        if !self.run.has_semaphores() {\n            return Ok(Settled::Waits);\n        }", "        if !self.run.has_semaphores() || self.depth > 0 {\n            return Ok(Settled::Waits);\n        }", "Frame::settle_parked")
+e("keep: the run of a keeper that found more is given out", "frame", "            Ok(Taken::Kept(Remaining::More)) => {\n                let keeper = Some(value.keeper_now());\n                self.lock.put(Held { value, pass });\n                Ok(Kept {\n                    over: Over::No,", "            Ok(Taken::Kept(Remaining::More)) => {\n                let keeper = Some(value.keeper_now());\n                Ok(Kept {\n                    over: self.finish(value)?,", "Frame::keep")
+e("keep: laid aside, the lock isn't put back", "frame", "            Ok(Taken::Aside) => {\n                self.lock.put(Held { value, pass });\n", "            Ok(Taken::Aside) => {\n                drop((value, pass));\n", "Frame::keep")
+e("keep: after no memory the lock isn't put back", "frame", "            Err(NoMemory) => {\n                self.lock.put(Held { value, pass });\n                Err(NoMemory)\n            }\n        }\n    }\n\n    // The run of the frame, which is over", "            Err(NoMemory) => {\n                drop((value, pass));\n                Err(NoMemory)\n            }\n        }\n    }\n\n    // The run of the frame, which is over", "Frame::keep")
+e("keep: nothing done told as over None: done not empty check dropped", "frame", "        if done.is_empty() {\n            return Ok(Kept {\n                over: Over::No,\n                keeper: None,\n            });\n        }\n        let Held { mut value, pass } = self.lock.take(rt);\n        match value.take_in", "        if done.is_empty() || returned.is_some() {\n            return Ok(Kept {\n                over: Over::No,\n                keeper: None,\n            });\n        }\n        let Held { mut value, pass } = self.lock.take(rt);\n        match value.take_in", "Frame::keep")
+e("open_inside: not put back", "frame", "        let spans = value.open_inside(self.book());\n        self.lock.put(Held { value, pass });\n        spans", "        let spans = value.open_inside(self.book());\n        drop((value, pass));\n        spans", "Frame::open_inside")
+# locked run
+e("take_in: kept though a run is open inside", "locked_run", "        if !self.spans.has_all_back() {\n            return Ok(Taken::Aside);\n        }\n", "", "LockedRun::take_in")
+e("take_in: always laid aside", "locked_run", "        if !self.spans.has_all_back() {\n            return Ok(Taken::Aside);\n        }", "        if true {\n            return Ok(Taken::Aside);\n        }", "LockedRun::take_in")
+e("take_in: spans counted after they are gone", "locked_run", "        let count = count_spans(done.batch.fates());\n        run.gather_all(&mut self.aside, done)?;", "        run.gather_all(&mut self.aside, done)?;\n        let count = count_spans(done.batch.fates());", "LockedRun::take_in")
+e("note_all: the run inside isn't taken back", "locked_run", "    if let Some(inner) = returned {\n        book.take_back(spans, inner);\n    }", "    drop(returned);", "note_all")
+e("note_all: noted twice", "locked_run", "    book.note(spans, teller, count);\n", "    book.note(spans, teller, count);\n    book.note(spans, teller, 0);\n", "note_all")
+# opening
+e("begin: first releases but one", "frame_opening", "        let room = ReleaseRoom::new(alloc, &frame, count)?;\n        Ok(Stepped {\n            released: room.hand_out(frame, &mut fresh),\n            state: State::Went,", "        drop(fresh.pop());\n        let room = ReleaseRoom::new(alloc, &frame, count)?;\n        Ok(Stepped {\n            released: room.hand_out(frame, &mut fresh),\n            state: State::Went,", "Frame::begin")
+e("open: the next release of the task is lost", "frame_opening", "        let ready = ReadyTurn::fresh(again);\n        released.push_reserved(Release { frame, ready });\n", "        drop((again, frame));\n", "Frame::open")
+e("first_inside: the inner run isn't noted as opened", "frame_opening", "frame.open_inside(rt), Some(start));", "frame.open_inside(rt), None);", "Frame::first_inside")
+e("first_inside: the first releases reversed", "frame_opening", "        let room = ReleaseRoom::new(alloc, &inner, fresh.len())?;\n        Ok(room.hand_out(inner, &mut fresh))", "        fresh.reverse();\n        let room = ReleaseRoom::new(alloc, &inner, fresh.len())?;\n        Ok(room.hand_out(inner, &mut fresh))", "Frame::first_inside")
+# steps
+e("step: parked told as went", "frame_steps", "                    state: State::Parked(turn),", "                    state: { drop(turn); State::Went },", "Frame::park")
+e("park: the next release of the task is lost", "frame_steps", "                add_again(&mut backlog.made, again);\n", "                drop(again);\n", "Frame::park")
+e("hand_on: no room for what is made", "frame_steps", "        made.reserve(count)?;\n        frame.conclude", "        frame.conclude", "Frame::hand_on")
+e("hand_on: the first released dropped", "frame_steps", "        frame.conclude(rt, attempt, returned, batch, made);\n        Ok(room.hand_out(frame, made))", "        frame.conclude(rt, attempt, returned, batch, made);\n        drop(made.pop());\n        Ok(room.hand_out(frame, made))", "Frame::hand_on")
+e("bring: a closed run told as went", "frame_steps", "            Over::Alone(closed) => Ok(Brought {\n                state: State::Closed(closed),", "            Over::Alone(_) => Ok(Brought {\n                state: State::Went,", "Frame::bring")
+e("bring: no keeper told", "frame_steps", "            Over::No => Ok(Brought {\n                state: State::Went,\n                keeper,", "            Over::No => Ok(Brought {\n                state: State::Went,\n                keeper: None,", "Frame::bring")
+e("bring: the resumed releases lost", "frame_steps", "                state: State::Resumed(Frame::resume(rt, inner, backlog)?),", "                state: { drop(Frame::resume(rt, inner, backlog)?); State::Went },", "Frame::bring")
+e("resume: the account of the inner run is lost", "frame_steps", "            Some(spans),\n", "            { drop(spans); None },\n", "Frame::resume")
+# release
+e("hand_out: not reversed", "release", "        releases.reverse();\n", "", "ReleaseRoom::hand_out")
+e("held: nothing", "release", "ReadyKind::Woken(turn, _) => HeldBy::Turn(turn),", "ReadyKind::Woken(turn, _) => HeldBy::Turn(turn), ", "Release::held")
+e("is_inside: an outermost run taken for one inside", "over", "            Over::Alone(_) => false,", "            Over::Alone(_) => true,", "Over::is_inside")
+EDITS = E

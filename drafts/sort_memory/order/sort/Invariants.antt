@@ -1,0 +1,5 @@
+use Rattle.text_ops.specs.inside.Sorting.{SortedSoFar}
+use Rattle.text_ops.proofs.order.sort.Given as goal
+
+abbrev pub invariant-loop-sort_key : goal.invariant-loop-sort_key
+invariant-loop-sort_key l = SortedSoFar l.bytes l.sort_keys.items l.made
