@@ -3,6 +3,7 @@ use Rattle.std.proofs.Common.{◌≡◌, ◌≢◌, ◌⊎◌, inl, inr, ◌==�
 use Rattle.std.specs.Option.{option_map}
 use Rattle.std.specs.List.{Contains, All}
 use Rattle.std.proofs.lemmas.Bool.{eqb-true}
+use Rattle.std.proofs.str.Laws.{order}
 use Rattle.std.proofs.lemmas.List.{reverse-append, get_or_default}
 use Rattle.std.proofs.lemmas.List.Elements.{All-cons, All-head, All-tail, Contains-append_right, Contains-push_cases}
 use Rattle.task_graph.specs.declared.net.EdgeRow.{EdgeRow}
@@ -247,6 +248,15 @@ no_cycle net components t n edges same all numbering none cycle =
     at_place : (e : ℕ) → Contains edges e → StaysInComponent net components t e → ⊥
     at_place e (k, below, is) keeps = none k (omega (arith, below, all)) (subst (StaysInComponent net components t) (sym (get_or_default edges k 0 e below ∙ is)) keeps)
 
+-- one edge more doesn't keep the component
+pub none_stays_more : (net : NetRows) (components : List ℕ) (t n : ℕ) → ((k : ℕ) → k < n → ¬ StaysInComponent net components t (get_or (out_edges net t) k 0))
+    → ¬ StaysInComponent net components t (get_or (out_edges net t) n 0)
+    → (k : ℕ) → k < n + 1 → ¬ StaysInComponent net components t (get_or (out_edges net t) k 0)
+none_stays_more net components t n before last k below = elim (order k n) [
+  | inl earlier ↦ before k earlier
+  | inr late ↦ let same : n ≡ k = omega (arith, late, below) in subst (λ i. ¬ StaysInComponent net components t (get_or (out_edges net t) i 0)) same last
+]
+
 -- the order without its last task
 pub order_front : (net : NetRows) (left : List ℕ) (root : ℕ) → IsFinishOrder net (reverse (left ++ root ∷ [])) → IsFinishOrder net (reverse left)
 order_front net left root finished =
@@ -276,3 +286,11 @@ stays_in_component_by net components t e head weak ends is =
           let equal : get_or components head 0 ≡ get_or components t 0 = ap (λ u. get_or components u 0) (sym row.2 ∙ ap (λ (r : EdgeRow). r.to) (sym row_same)) ∙ same.2 in
           and_true (get_or components head 0 == get_or components t 0) (not weak) (eq-eqb (get_or components head 0) (get_or components t 0) equal) (not_false weak (is ∙ keeps.strong)),
     )
+
+-- the same where the components are equal
+pub stays_in_equal_component : (net : NetRows) (components : List ℕ) (t e head : ℕ) (weak : Bool) → edge_to net e ≡ Some head → weak ≡ is_weak net e
+    → get_or components head 0 ≡ get_or components t 0 → (IsTrue (not weak) ↔ StaysInComponent net components t e)
+stays_in_equal_component net components t e head weak ends is equal =
+    let by = stays_in_component_by net components t e head weak ends is in
+    let same = eq-eqb (get_or components head 0) (get_or components t 0) equal in
+    (λ strong. by.0 (and_true (get_or components head 0 == get_or components t 0) (not weak) same strong), λ stays. (both (get_or components head 0 == get_or components t 0) (not weak) (by.1 stays)).1)

@@ -2,6 +2,7 @@ pub mod PlaceLemmas
 pub mod EdgeLemmas
 pub mod ListingLemmas
 pub mod StepLemmas
+pub mod EndLemmas
 pub mod SpreadLemmas
 pub mod WalkLemmas
 pub mod ReachLemmas

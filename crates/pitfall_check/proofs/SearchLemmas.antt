@@ -11,14 +11,14 @@ use Rattle.std.proofs.lemmas.List.Quantifiers.{all_pairs_push}
 use Rattle.task_graph.specs.declared.net.EdgeRow.{EdgeRow}
 use Rattle.task_graph.specs.declared.net.TaskRow.{TaskRow}
 use Rattle.task_graph.specs.NetRows.{NetRows}
-use Rattle.task_graph.specs.Net.{IsNet, is_weak, out_edges}
+use Rattle.task_graph.specs.Net.{IsNet, is_weak, task_chooses, out_edges}
 use Rattle.pitfall_check.specs.declared.progress.Progress.{Progress}
 use Rattle.pitfall_check.specs.declared.progress.Progress.TheVariants.{Unseen, Open, Done}
 use Rattle.pitfall_check.specs.inside.Steps.{IsStrongStep, stays, onward, edge_to}
 use Rattle.pitfall_check.specs.inside.SearchRules.{progress_of, is_unseen, leads_to_unseen, NoneLeadsToUnseen, Precedes, IsFinishOrder, IsSearch, FindsNext, OnlySeesMore, IsFullOrder}
 use Rattle.pitfall_check.proofs.PlaceLemmas.{read_of_zeros, passing_listed, member_cases, member_first, member_later, no_member}
 use Rattle.pitfall_check.proofs.EdgeLemmas.{both}
-use Rattle.pitfall_check.proofs.StepLemmas.{out_passes, not_true, same_value}
+use Rattle.pitfall_check.proofs.StepLemmas.{out_passes, not_true, same_value, weak_where_chooses}
 use Rattle.pitfall_check.proofs.SpreadLemmas.{same_or_not, count_by-set_no, count_by-set_same}
 
 -- a test that fails where a weaker one does
@@ -325,6 +325,33 @@ found_step net states t place b found ends =
       step = record { step = record { edge = e; row = at.item; is = at.is; from = eqb-true at.item.from t at.passes; to = to }; strong = not_true (is_weak net e) tests.0 };
       unseen = ap (progress_of states) (sym to) ∙ unseen_is (progress_of states at.item.to) (sym (ap (λ o. option_map_or unseen_row o false) at.is) ∙ tests.1);
     }
+
+-- whether an edge leads on, by its ends
+pub leads_to_unseen_by : (net : NetRows) (states : List Progress) (t e b : ℕ) → Contains (out_edges net t) e → edge_to net e ≡ Some b
+    → leads_to_unseen net states e ≡ (not (task_chooses net t) && is_unseen (progress_of states b))
+leads_to_unseen_by net states t e b here ends =
+    let unseen_row : EdgeRow → Bool = λ row. is_unseen (progress_of states row.to) in
+    let at = out_passes net t e here in
+    let to : at.item.to ≡ b = same_value at.item.to b (sym (ap (option_map (λ (row : EdgeRow). row.to)) at.is) ∙ ends) in
+    ap (λ w. not w && option_map_or unseen_row (slice_get net.edges e) false) (weak_where_chooses net t e here)
+    ∙ ap (λ u. not (task_chooses net t) && u) (ap (λ o. option_map_or unseen_row o false) at.is ∙ ap (λ u. is_unseen (progress_of states u)) to)
+
+with_true : (b : Bool) → (b && true) ≡ b
+with_true true = refl
+with_true false = refl
+
+pub leads_where_unseen : (net : NetRows) (states : List Progress) (t e b : ℕ) → Contains (out_edges net t) e → edge_to net e ≡ Some b → is_unseen (progress_of states b) ≡ true
+    → leads_to_unseen net states e ≡ not (task_chooses net t)
+leads_where_unseen net states t e b here ends unseen =
+    leads_to_unseen_by net states t e b here ends ∙ ap (λ u. not (task_chooses net t) && u) unseen ∙ with_true (not (task_chooses net t))
+
+-- one edge more out of a task doesn't lead on
+pub NoneLeadsToUnseen-more : (net : NetRows) (states : List Progress) (t n : ℕ) → NoneLeadsToUnseen net states t n
+    → leads_to_unseen net states (get_or (out_edges net t) n 0) ≡ false → NoneLeadsToUnseen net states t (n + 1)
+NoneLeadsToUnseen-more net states t n before last k low below = elim (order k n) [
+  | inl earlier ↦ before k earlier below
+  | inr late ↦ let same : n ≡ k = omega (arith, late, low) in subst (λ i. leads_to_unseen net states (get_or (out_edges net t) i 0) ≡ false) same last
+]
 
 -- a search goes on to a task that wasn't seen
 pub IsSearch-go_on : (net : NetRows) (states : List Progress) (cursors path done : List ℕ) (t place b : ℕ) → IsSearch net states cursors (path ++ t ∷ []) done

@@ -1,15 +1,15 @@
 -- Steps by the lists of a task's edges.
-use Rattle.std.proofs.Common.{◌≡◌, ◌==◌, ℕ, ◌<◌, Bool, true, false, not, ◌&&◌, List, length, get_or, slice_get, Option, Some, refl, sym, ap, ◌∙◌, subst, eq-eqb}
+use Rattle.std.proofs.Common.{◌≡◌, ◌==◌, ℕ, ◌<◌, Bool, true, false, not, ◌&&◌, length, get_or, slice_get, Option, Some, refl, sym, ap, ◌∙◌, eq-eqb}
 use Rattle.std.specs.List.{Contains, All}
 use Rattle.std.specs.Option.{option_map, option_map_or}
 use Rattle.std.proofs.lemmas.Bool.{eqb-true}
 use Rattle.std.proofs.lemmas.List.Elements.{Contains-get_or}
 use Rattle.task_graph.specs.declared.net.EdgeRow.{EdgeRow}
 use Rattle.task_graph.specs.NetRows.{NetRows}
-use Rattle.task_graph.specs.Net.{is_weak, is_weak_row, out_edges, strong_in}
+use Rattle.task_graph.specs.Net.{is_weak, is_weak_row, task_chooses, out_edges, strong_in}
 use Rattle.pitfall_check.specs.declared.way.Way.{Way}
 use Rattle.pitfall_check.specs.declared.way.Way.TheVariants.{Ahead, StrongBack}
-use Rattle.pitfall_check.specs.inside.Steps.{StepsBy, edges_by, end_by, AreEnds}
+use Rattle.pitfall_check.specs.inside.Steps.{StepsBy, edges_by, end_by}
 use Rattle.pitfall_check.proofs.PlaceLemmas.{PassesAtPlace, listed_passes, passing_listed}
 use Rattle.pitfall_check.proofs.EdgeLemmas.{place_below, both}
 
@@ -53,13 +53,11 @@ edges_by_in_range StrongBack net t k d below =
     let at = strong_passes net t (get_or (strong_in net t) k d) (Contains-get_or (strong_in net t) k d below) in
     place_below net.edges (get_or (strong_in net t) k d) at.item at.is
 
--- the edge at a place out of a task is one of the net, and its end is a task
-pub head_at : (net : NetRows) (heads out : List ℕ) (t place : ℕ) → AreEnds Ahead net heads → out ≡ out_edges net t → place < length (out_edges net t)
-    → (get_or out place 0 < length heads) × (end_by Ahead net (get_or (out_edges net t) place 0) ≡ Some (get_or heads (get_or out place 0) 0)) × (get_or heads (get_or out place 0) 0 < length net.tasks)
-head_at net heads out t place ends same inside =
-    let below = edges_by_in_range Ahead net t place 0 inside in
-    subst (λ (es : List ℕ). (get_or es place 0 < length heads) × (end_by Ahead net (get_or (out_edges net t) place 0) ≡ Some (get_or heads (get_or es place 0) 0)) × (get_or heads (get_or es place 0) 0 < length net.tasks))
-    (sym same) (subst (λ n. get_or (out_edges net t) place 0 < n) (sym ends.size) below, ends.named _ below, ends.in_range _ below)
+-- the edges out of a task are weak where it chooses
+pub weak_where_chooses : (net : NetRows) (t e : ℕ) → Contains (out_edges net t) e → is_weak net e ≡ task_chooses net t
+weak_where_chooses net t e here =
+    let at = out_passes net t e here in
+    weak_at net e at.item at.is ∙ ap (task_chooses net) (eqb-true at.item.from t at.passes)
 
 pub same_value : {X : Type 0} (x y : X) → ◌≡◌ {A = Option X} (Some x) (Some y) → x ≡ y
 same_value x y same = cc

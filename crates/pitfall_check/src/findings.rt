@@ -3,10 +3,11 @@ ghost use Rattle.std.specs.Prelude.{◌≡◌, ◌*◌, ◌^◌, ◌++◌, ◌�
 ghost use Rattle.pitfall_check.specs.Pitfalls.{BeginsWithoutTokens};
 ghost use Rattle.pitfall_check.specs.Findings.{AreFindings};
 ghost use Rattle.pitfall_check.specs.inside.PartialFindings.{AreFindingsBelow};
-ghost use Rattle.pitfall_check.specs.inside.Steps.{AreEnds};
+ghost use Rattle.pitfall_check.specs.inside.EndLists.{AreListed};
 
 use crate::components::{is_on_cycle, number_components};
 use crate::conditions::{has_many_conditions, is_mixed};
+use crate::ends_by_task::EndsByTask;
 use crate::finding::Finding;
 use crate::reach::mark_reached;
 use crate::way::Way;
@@ -23,9 +24,9 @@ pub fn check(alloc: Global, net: &Net) -> Result<List<Finding>, NoMemory>
     add_no_source(net, &mut findings)?;
     add_mixed(net, &mut findings)?;
     add_many_conditions(net, &mut findings)?;
-    let heads = Way::Ahead.ends(alloc, net)?;
-    add_strong_cycles(alloc, net, heads.as_slice(), &mut findings)?;
-    add_never_reached(alloc, net, heads.as_slice(), &mut findings)?;
+    let heads = EndsByTask::new(alloc, net, Way::Ahead)?;
+    add_strong_cycles(alloc, net, &heads, &mut findings)?;
+    add_never_reached(alloc, net, &heads, &mut findings)?;
     Ok(findings)
 }
 
@@ -78,10 +79,10 @@ fn add_many_conditions(net: &Net, findings: &mut List<Finding>) -> Result<(), No
 fn add_strong_cycles(
     alloc: Global,
     net: &Net,
-    heads: &[u32],
+    heads: &EndsByTask,
     findings: &mut List<Finding>,
 ) -> Result<(), NoMemory>
-    requires heads { AreEnds Way.Ahead net.now heads.now }
+    requires heads { AreListed Way.Ahead net.now heads.now }
     requires findings { AreFindingsBelow net.now (3 * 2 ^ 32) findings.old }
     ensures { OnOk result (AreFindingsBelow net.now (4 * 2 ^ 32) findings.new) }
 {
@@ -97,10 +98,10 @@ fn add_strong_cycles(
 fn add_never_reached(
     alloc: Global,
     net: &Net,
-    heads: &[u32],
+    heads: &EndsByTask,
     findings: &mut List<Finding>,
 ) -> Result<(), NoMemory>
-    requires heads { AreEnds Way.Ahead net.now heads.now }
+    requires heads { AreListed Way.Ahead net.now heads.now }
     requires findings { AreFindingsBelow net.now (4 * 2 ^ 32) findings.old }
     ensures { OnOk result (AreFindings net.now findings.new) }
 {

@@ -11,9 +11,11 @@
 //! task is on a cycle exactly where a strong edge out of it leads to a task with its mark.
 #![tactic(auto)]
 
+mod chooses;
 mod components;
 mod conditions;
 mod ends;
+mod ends_by_task;
 mod finding;
 mod findings;
 mod progress;

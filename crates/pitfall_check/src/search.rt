@@ -1,9 +1,12 @@
 // A depth-first search along strong edges. Its path is a list, so that a long chain of tasks takes no stack.
-ghost use Rattle.std.specs.Prelude.{◌≡◌, ◌+◌, ◌*◌, ◌<◌, ◌^◌, ◌++◌, ◌∷◌, [], true, false, IfOk, IfNone, IfSome, OnOk, length, count_by, slice_index, slice_set};
+ghost use Rattle.std.specs.Prelude.{◌≡◌, ℕ, ◌+◌, ◌*◌, ◌<◌, ◌^◌, ◌++◌, ◌∷◌, [], true, false, IfOk, IfNone, IfSome, OnOk, Contains, Some, length, count_by, slice_index, slice_set};
 ghost use Rattle.task_graph.specs.Net.{out_edges};
-ghost use Rattle.pitfall_check.specs.inside.Steps.{AreEnds};
+ghost use Rattle.pitfall_check.specs.inside.EndLists.{AreEndsOf, AreListed};
+ghost use Rattle.pitfall_check.specs.inside.Steps.{edge_to};
 ghost use Rattle.pitfall_check.specs.inside.SearchRules.{IsSearch, IsFullOrder, FindsNext, NoneLeadsToUnseen, OnlySeesMore, is_unseen, leads_to_unseen, progress_of};
 
+use crate::chooses::task_chooses;
+use crate::ends_by_task::EndsByTask;
 use crate::progress::Progress;
 use crate::way::Way;
 use outside_io::NoMemory;
@@ -11,8 +14,8 @@ use std::alloc::Global;
 use task_graph::Net;
 
 /// The tasks in the order in which a depth-first search along strong edges finishes them.
-pub fn finish_order(alloc: Global, net: &Net, heads: &[u32]) -> Result<Vec<u32>, NoMemory>
-    requires { AreEnds Way.Ahead net.now heads.now }
+pub fn finish_order(alloc: Global, net: &Net, heads: &EndsByTask) -> Result<Vec<u32>, NoMemory>
+    requires { AreListed Way.Ahead net.now heads.now }
     ensures { IfOk result (λ order. IsFullOrder net.now order.items) }
 {
     let mut search = Search::new(alloc, net)?;
@@ -55,8 +58,8 @@ impl Search {
     }
 
     // Goes on from a task until all that was found from it is finished.
-    fn visit(&mut self, net: &Net, heads: &[u32], root: u32) -> Result<(), NoMemory>
-        requires heads { AreEnds Way.Ahead net.now heads.now }
+    fn visit(&mut self, net: &Net, heads: &EndsByTask, root: u32) -> Result<(), NoMemory>
+        requires heads { AreListed Way.Ahead net.now heads.now }
         requires root { root < length net.now.tasks }
         requires search { HoldsSearch net.now self.old }
         requires path { self.old.path.items ≡ [] }
@@ -76,8 +79,8 @@ impl Search {
     }
 
     // Goes on from the last task of the path, which was taken off: to a task that wasn't seen, or back.
-    fn step(&mut self, net: &Net, heads: &[u32], task: u32) -> Result<(), NoMemory>
-        requires heads { AreEnds Way.Ahead net.now heads.now }
+    fn step(&mut self, net: &Net, heads: &EndsByTask, task: u32) -> Result<(), NoMemory>
+        requires heads { AreListed Way.Ahead net.now heads.now }
         requires search { IsSearch net.now self.old.states.items self.old.cursors.items
             (self.old.path.items ++ task ∷ []) self.old.order.items }
         ensures search { OnOk result (HoldsSearch net.now self.new) }
@@ -87,11 +90,12 @@ impl Search {
             < 2 * count_by is_unseen self.old.states.items + length self.old.path.items + 1) }
     {
         let cursor = self.cursors[task as usize];
-        match next_unseen(net, heads, self.states.as_slice(), task, cursor as usize) {
+        let ends = heads.of(task);
+        match next_unseen(net, ends, self.states.as_slice(), task, cursor as usize) {
             Some(place) => {
                 self.cursors[task as usize] = place as u32;
                 self.path.push(task)?;
-                self.open(heads[net.out_edges(task)[place] as usize])?;
+                self.open(ends[place])?;
             }
             None => {
                 self.states[task as usize] = Progress::Done;
@@ -120,7 +124,7 @@ fn next_unseen(
     task: u32,
     from: usize,
 ) -> Option<usize>
-    requires heads { AreEnds Way.Ahead net.now heads.now }
+    requires heads { AreEndsOf Way.Ahead net.now task heads.now }
     requires task { task < length net.now.tasks }
     requires states { length states.now ≡ length net.now.tasks }
     requires passed { NoneLeadsToUnseen net.now states.now task from }
@@ -128,21 +132,22 @@ fn next_unseen(
     ensures none { IfNone result
         (NoneLeadsToUnseen net.now states.now task (length (out_edges net.now task))) }
 {
-    let edges = net.out_edges(task);
-    for place in from..edges.len() {
-        if leads_to_unseen(net, heads, states, edges[place]) {
+    for place in from..heads.len() {
+        if leads_to_unseen(net, states, task, heads[place]) {
             return Some(place);
         }
     }
     None
 }
 
-// Whether an edge is strong and leads to a task that wasn't seen.
-fn leads_to_unseen(net: &Net, heads: &[u32], states: &[Progress], edge: u32) -> bool
-    requires heads { AreEnds Way.Ahead net.now heads.now }
-    requires edge { edge < length net.now.edges }
+// Whether the edges from a task to another are strong, and the other task wasn't seen.
+#[tactic(auto, using(crate::proofs::SearchLemmas::leads_to_unseen_by))]
+fn leads_to_unseen(net: &Net, states: &[Progress], task: u32, head: u32) -> bool
+    requires task { task < length net.now.tasks }
+    requires head { head < length net.now.tasks }
     requires states { length states.now ≡ length net.now.tasks }
-    ensures { result ≡ leads_to_unseen net.now states.now edge }
+    ensures { (e : ℕ) → Contains (out_edges net.now task) e → edge_to net.now e ≡ Some head
+        → result ≡ leads_to_unseen net.now states.now e }
 {
-    states[heads[edge as usize] as usize].is_unseen() && !net.is_weak(edge)
+    states[head as usize].is_unseen() && !task_chooses(net, task)
 }

@@ -1,8 +1,10 @@
 // Marks that spread over a net.
 ghost use Rattle.std.specs.Prelude.{◌≡◌, ◌≢◌, ◌<◌, [], length, slice_index, Contains, OnOk};
-ghost use Rattle.pitfall_check.specs.inside.Steps.{AreEnds, StepsBy};
+ghost use Rattle.pitfall_check.specs.inside.Steps.{StepsBy};
+ghost use Rattle.pitfall_check.specs.inside.EndLists.{AreListed};
 ghost use Rattle.pitfall_check.specs.inside.MarkSpread.{Adds, EndsAreMarked, IsSpread};
 
+use crate::ends_by_task::EndsByTask;
 use crate::way::Way;
 use outside_io::NoMemory;
 use task_graph::Net;
@@ -12,13 +14,13 @@ use task_graph::Net;
 pub fn spread(
     net: &Net,
     way: Way,
-    ends: &[u32],
+    ends: &EndsByTask,
     root: u32,
     mark: u32,
     marks: &mut [u32],
     queue: &mut Vec<u32>,
 ) -> Result<(), NoMemory>
-    requires ends { AreEnds way net.now ends.now }
+    requires ends { AreListed way net.now ends.now }
     requires root { root < length net.now.tasks }
     requires size { length marks.old ≡ length net.now.tasks }
     requires unmarked { slice_index marks.old root ≡ 0 }
@@ -39,13 +41,13 @@ pub fn spread(
 fn mark_ends(
     net: &Net,
     way: Way,
-    ends: &[u32],
+    ends: &EndsByTask,
     task: u32,
     mark: u32,
     marks: &mut [u32],
     queue: &mut Vec<u32>,
 ) -> Result<(), NoMemory>
-    requires ends { AreEnds way net.now ends.now }
+    requires ends { AreListed way net.now ends.now }
     requires task { task < length net.now.tasks }
     requires size { length marks.old ≡ length net.now.tasks }
     requires mark { 0 < mark }
@@ -53,8 +55,8 @@ fn mark_ends(
         (Adds (StepsBy way net.now task) mark marks.old queue.old.items marks.new queue.new.items) }
     ensures closed { OnOk result (EndsAreMarked way net.now marks.new task) }
 {
-    for edge in way.edges(net, task) {
-        mark_task(ends[*edge as usize], mark, marks, queue)?;
+    for end in ends.of(task) {
+        mark_task(*end, mark, marks, queue)?;
     }
     Ok(())
 }

@@ -1,5 +1,5 @@
 -- Steps along edges, and what is reached by them.
-use Rattle.std.specs.Prelude.{◌≡◌, ℕ, ◌<◌, false, List, length, slice_get, slice_index, Option, Some}
+use Rattle.std.specs.Prelude.{◌≡◌, ℕ, ◌<◌, ◌≤◌, false, List, length, slice_get, slice_index, Option, Some}
 use Rattle.std.specs.Option.{option_map}
 use Rattle.task_graph.specs.declared.net.EdgeRow.{EdgeRow}
 use Rattle.task_graph.specs.NetRows.{NetRows}
@@ -44,8 +44,9 @@ abbrev pub end_by : Way → NetRows → ℕ → Option ℕ
 end_by Ahead net e = edge_to net e
 end_by StrongBack net e = edge_from net e
 
--- of each edge the task at its end, by the edge's number
-pub record AreEnds (way : Way) (net : NetRows) (ends : List ℕ) : Type 0 where
-  pub size : length ends ≡ length net.edges
-  pub named : (e : ℕ) → e < length net.edges → end_by way net e ≡ Some (slice_index ends e)
-  pub in_range : (e : ℕ) → e < length net.edges → slice_index ends e < length net.tasks
+-- the tasks at the ends of the first n of these edges
+pub record AreEnds (way : Way) (net : NetRows) (edges ends : List ℕ) (n : ℕ) : Type 0 where
+  pub within : n ≤ length edges
+  pub size : length ends ≡ n
+  pub named : (k : ℕ) → k < n → end_by way net (slice_index edges k) ≡ Some (slice_index ends k)
+  pub in_range : (k : ℕ) → k < n → slice_index ends k < length net.tasks
