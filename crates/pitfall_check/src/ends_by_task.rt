@@ -1,6 +1,7 @@
 // The tasks at the ends of edges, task by task.
 ghost use Rattle.std.specs.Prelude.{◌≡◌, ◌+◌, ◌<◌, ◌∷◌, [], IfOk, OnOk, length};
 ghost use Rattle.pitfall_check.specs.inside.EndLists.{AddsEndsOf};
+ghost use Rattle.pitfall_check.specs.inside.Steps.{AreEndsByEdge};
 
 use crate::way::Way;
 use outside_io::NoMemory;
@@ -23,9 +24,10 @@ impl EndsByTask {
     pub fn new(alloc: Global, net: &Net, way: Way) -> Result<EndsByTask, NoMemory>
         ensures { IfOk result (AreListed way net.now) }
     {
+        let by_edge = way.ends(alloc, net)?;
         let mut lists = EndsByTask::empty(alloc, net.edges().len())?;
         for task in 0..net.tasks().len() as u32 {
-            lists.add(net, way, task)?;
+            lists.add(net, way, by_edge.as_slice(), task)?;
         }
         Ok(lists)
     }
@@ -51,24 +53,32 @@ impl EndsByTask {
     }
 
     // Adds the ends of the next task's edges.
-    fn add(&mut self, net: &Net, way: Way, task: u32) -> Result<(), NoMemory>
+    fn add(&mut self, net: &Net, way: Way, by_edge: &[u32], task: u32) -> Result<(), NoMemory>
+        requires by_edge { AreEndsByEdge way net.now by_edge.now }
         requires task { task < length net.now.tasks }
         requires lists { AreListedBelow way net.now self.old task }
         ensures { OnOk result (AreListedBelow way net.now self.new (task + 1)) }
     {
-        add_ends(net, way, task, &mut self.ends)?;
+        add_ends(net, way, by_edge, task, &mut self.ends)?;
         self.bounds.push(self.ends.len())?;
         Ok(())
     }
 }
 
 // Puts the ends of a task's edges at the end of a list.
-fn add_ends(net: &Net, way: Way, task: u32, ends: &mut Vec<u32>) -> Result<(), NoMemory>
-    requires { task < length net.now.tasks }
+fn add_ends(
+    net: &Net,
+    way: Way,
+    by_edge: &[u32],
+    task: u32,
+    ends: &mut Vec<u32>,
+) -> Result<(), NoMemory>
+    requires by_edge { AreEndsByEdge way net.now by_edge.now }
+    requires task { task < length net.now.tasks }
     ensures { OnOk result (AddsEndsOf way net.now task ends.old.items ends.new.items) }
 {
     for edge in way.edges(net, task) {
-        ends.push(way.end(net, *edge))?;
+        ends.push(by_edge[*edge as usize])?;
     }
     Ok(())
 }

@@ -50,3 +50,9 @@ pub record AreEnds (way : Way) (net : NetRows) (edges ends : List ℕ) (n : ℕ)
   pub size : length ends ≡ n
   pub named : (k : ℕ) → k < n → end_by way net (slice_index edges k) ≡ Some (slice_index ends k)
   pub in_range : (k : ℕ) → k < n → slice_index ends k < length net.tasks
+
+-- of each edge the task at its end, by the edge's number
+pub record AreEndsByEdge (way : Way) (net : NetRows) (ends : List ℕ) : Type 0 where
+  pub size : length ends ≡ length net.edges
+  pub named : (e : ℕ) → e < length net.edges → end_by way net e ≡ Some (slice_index ends e)
+  pub in_range : (e : ℕ) → e < length net.edges → slice_index ends e < length net.tasks
