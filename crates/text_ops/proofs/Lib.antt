@@ -16,6 +16,7 @@ pub mod LeadLemmas
 pub mod SortedKeys
 pub mod ShortLines
 pub mod SortLemmas
+pub mod SortSteps
 pub mod TallyLemmas
 pub mod TallySteps
 pub mod CountedLemmas

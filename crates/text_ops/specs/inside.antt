@@ -3,6 +3,7 @@ pub mod SharedText
 pub mod Gathering
 pub mod Keeping
 pub mod SortKeys
+pub mod Sorting
 pub mod Matching
 pub mod KeySlots
 pub mod Tallying

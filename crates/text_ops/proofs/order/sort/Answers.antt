@@ -1,44 +1,47 @@
-use Rattle.std.proofs.Common.{◌++◌, ◌∙◌, sym, ap, subst, length, map, take}
-use Rattle.std.proofs.lemmas.List.{take_all}
+use Rattle.std.proofs.Common.{◌∙◌, ◌++◌, sym, ap, subst, length, arith}
+use Rattle.std.proofs.lemmas.List.{nil_from_length}
 use Rattle.text_ops.specs.declared.sort_key.Piece.TheVariants.{Whole}
-use Rattle.text_ops.specs.inside.SortKeys.{keyed_piece, IsEndedKey, AreSortedKeys}
-use Rattle.text_ops.specs.inside.Gathering.{IsGathered}
-use Rattle.text_ops.specs.Lines.{text_of, ended, IsNormal}
+use Rattle.text_ops.specs.inside.SortKeys.{AreSortedKeys, keyed_piece}
+use Rattle.text_ops.specs.inside.Sorting.{SortedSoFar}
+use Rattle.text_ops.specs.LineOrder.{in_order}
+use Rattle.text_ops.specs.Lines.{IsNormal, lines_of}
 use Rattle.text_ops.specs.Values.{Makes}
 use Rattle.text_ops.specs.TextMeaning.{sort_meaning}
-use Rattle.text_ops.proofs.SortedKeys.{IsEndedKey-sorted, lines_in_order}
 use Rattle.text_ops.proofs.LineLemmas.{IsNormal-text_of}
-use Rattle.text_ops.proofs.SortLemmas.{length-sort_meaning, gathered-next, gathered_normal}
+use Rattle.text_ops.proofs.SortLemmas.{length-sort_meaning, gathered_normal}
+use Rattle.text_ops.proofs.SortSteps.{SortedSoFar-start, SortedSoFar-next, SortedSoFar-end, last_ended}
 use Rattle.text_ops.proofs.order.sort.Goals as goal
 
 pub returns-then-len-gt-VALUE_LIMIT : goal.returns-then-len-gt-VALUE_LIMIT
 returns-then-len-gt-VALUE_LIMIT c =
     (ap length c.as_slice-bytes.ensures.value ∙ sym (length-sort_meaning c.args.text.now c.as_slice-bytes.ensures.normal), c.if-len-gt-VALUE_LIMIT.true)
 
-pub add_keyed_line-requires : goal.add_keyed_line-requires
-add_keyed_line-requires c =
+pub loop-sort_key-init : goal.loop-sort_key-init
+loop-sort_key-init c =
     let bytes = c.as_slice-bytes.result.now in
     let normal = subst IsNormal (sym c.as_slice-bytes.ensures.value) c.as_slice-bytes.ensures.normal in
-    let sorted = subst (AreSortedKeys Whole bytes) (sym c.as_slice-sort_key-items.ensures.value) c.in_ok-sort_keys.ensures in
-    subst (IsEndedKey bytes) (sym c.sort_key-item.is) (IsEndedKey-sorted bytes c.as_slice-sort_key-items.result.now c.loop-sort_key.sort_key-index c.sort_key-item.result normal sorted c.loop-sort_key-test.true)
+    SortedSoFar-start bytes c.in_ok-sort_keys.sort_keys.items c.turn.new.sort_keys.items c.in_ok-made.made normal c.in_ok-sort_keys.ensures c.turn.ensures c.in_ok-made.ensures
+
+pub add_keyed_line-requires : goal.add_keyed_line-requires
+add_keyed_line-requires c =
+    last_ended c.as_slice-bytes.result.now c.loop-sort_key.sort_keys.items c.pop.new.self.items c.in-Some.sort_key c.loop-sort_key.made c.loop-sort_key.invariant c.in-Some.ensures.items
 
 pub loop-sort_key-preserved : goal.loop-sort_key-preserved
 loop-sort_key-preserved c =
-    gathered-next c.as_slice-bytes.result.now c.as_slice-sort_key-items.result.now c.loop-sort_key.sort_key-index c.loop-sort_key.made c.add_keyed_line.new.made c.sort_key-item.result
-    c.loop-sort_key.invariant c.loop-sort_key-test.true
-    (λ all gathered. subst (λ sort_key. IsGathered (all ++ ended (keyed_piece c.as_slice-bytes.result.now sort_key)) c.add_keyed_line.new.made) c.sort_key-item.is (c.in_ok-add_keyed_line.ensures all gathered))
+    let text = c.as_slice-bytes.result.now in
+    subst (λ left. SortedSoFar text left c.add_keyed_line.new.made) (sym c.release.ensures)
+    (SortedSoFar-next text c.loop-sort_key.sort_keys.items c.pop.new.self.items c.in-Some.sort_key c.loop-sort_key.made c.loop-sort_key.invariant c.in-Some.ensures.items c.add_keyed_line.new.made c.in_ok-add_keyed_line.ensures)
 
 pub finish-requires : goal.finish-requires
 finish-requires c =
-    let lines = map (keyed_piece c.as_slice-bytes.result.now) (take c.loop-sort_key.sort_key-index c.as_slice-sort_key-items.result.now) in
-    gathered_normal (text_of lines) c.loop-sort_key.made c.loop-sort_key.invariant (IsNormal-text_of lines)
+    let so_far = c.loop-sort_key.invariant in
+    let none = nil_from_length _ (omega (arith, c.in_default.ensures.cases, c.loop-sort_key.sort_keys.ok.0)) in
+    let whole = SortedSoFar-end c.as_slice-bytes.result.now c.loop-sort_key.sort_keys.items c.loop-sort_key.made so_far none in
+    gathered_normal so_far.all c.loop-sort_key.made so_far.gathered (subst IsNormal (sym whole) (IsNormal-text_of (in_order (lines_of c.as_slice-bytes.result.now))))
 
 pub returns : goal.returns
 returns c =
-    let same = c.as_slice-bytes.ensures.value in
-    let bytes = c.as_slice-bytes.result.now in
-    let sort_keys = c.as_slice-sort_key-items.result.now in
-    let sorted = subst (AreSortedKeys Whole bytes) (sym c.as_slice-sort_key-items.ensures.value) c.in_ok-sort_keys.ensures in
-    let all = ap (λ l. text_of (map (keyed_piece bytes) l)) (take_all c.loop-sort_key.sort_key-index sort_keys c.loop-sort_key-test.false) in
-    let lines = lines_in_order bytes sort_keys (subst IsNormal (sym same) c.as_slice-bytes.ensures.normal) sorted in
-    subst (λ value. Makes value c.finish.result) (all ∙ ap text_of lines ∙ ap sort_meaning same) (c.finish.ensures _ c.loop-sort_key.invariant)
+    let so_far = c.loop-sort_key.invariant in
+    let none = nil_from_length _ (omega (arith, c.in_default.ensures.cases, c.loop-sort_key.sort_keys.ok.0)) in
+    let whole = SortedSoFar-end c.as_slice-bytes.result.now c.loop-sort_key.sort_keys.items c.loop-sort_key.made so_far none in
+    subst (λ value. Makes value c.finish.result) (whole ∙ ap sort_meaning c.as_slice-bytes.ensures.value) (c.finish.ensures so_far.all so_far.gathered)

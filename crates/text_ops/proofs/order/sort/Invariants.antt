@@ -1,8 +1,9 @@
-use Rattle.std.proofs.Common.{map, take}
-use Rattle.text_ops.specs.Lines.{text_of}
-use Rattle.text_ops.specs.inside.Gathering.{IsGathered}
-use Rattle.text_ops.specs.inside.SortKeys.{keyed_piece}
+use Rattle.std.proofs.Common.{length}
+use Rattle.text_ops.specs.inside.Sorting.{SortedSoFar}
 use Rattle.text_ops.proofs.order.sort.Given as goal
 
 abbrev pub invariant-loop-sort_key : goal.invariant-loop-sort_key
-invariant-loop-sort_key l = IsGathered (text_of (map (keyed_piece l.bytes) (take l.sort_key-index l.sort_key-items))) l.made
+invariant-loop-sort_key l = SortedSoFar l.bytes l.sort_keys.items l.made
+
+abbrev pub decreases-loop-sort_key : goal.decreases-loop-sort_key
+decreases-loop-sort_key l = length l.sort_keys.items
