@@ -1,7 +1,5 @@
-use Rattle.std.proofs.Common.{◌∙◌, ◌++◌, sym, ap, subst, length, arith}
+use Rattle.std.proofs.Common.{◌∙◌, sym, ap, subst, length, arith}
 use Rattle.std.proofs.lemmas.List.{nil_from_length}
-use Rattle.text_ops.specs.declared.sort_key.Piece.TheVariants.{Whole}
-use Rattle.text_ops.specs.inside.SortKeys.{AreSortedKeys, keyed_piece}
 use Rattle.text_ops.specs.inside.Sorting.{SortedSoFar}
 use Rattle.text_ops.specs.LineOrder.{in_order}
 use Rattle.text_ops.specs.Lines.{IsNormal, lines_of}
