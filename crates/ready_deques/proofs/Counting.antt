@@ -188,7 +188,7 @@ sees slots id me s h len at small =
     let n : ℕ = count_word s.words in
     let c = seen_count n me.0 in
     let r = seen_room n me.0 in
-    (seen n me.0, keeps, tt, counted_after s.words s.views id me.0 (seen n me.0) n h at (omega arith) (omega arith) (inl (omega arith)), refl)
+    (seen n me.0, keeps, tt, counted_after s.words s.views id me.0 (seen n me.0) n h at (omega arith) (omega arith) (inl (omega arith)), ((λ _. refl), λ ne. absurd (ne refl)))
   where
     seen_count : (n : ℕ) (v : Counting) → (seen n v).count ≡ v.count
     seen_count zero v = refl

@@ -76,8 +76,9 @@ abbrev pub seen : ℕ → Counting → Counting
 seen zero v = counting v.count (v.zeros + 1) v.room
 seen (suc n) v = v
 
+-- an operation on another word than the count word counts nothing
 abbrev pub SeesIt : Step (Unit {0}) → Me (Unit {0}) Counting → ℕ → Me (Unit {0}) Counting → Type 0
-SeesIt s me n me' = me' ≡ (seen n me.0, me.1)
+SeesIt s me n me' = (s.word ≡ 8 → me' ≡ (seen n me.0, me.1)) × (s.word ≢ 8 → me' ≡ me)
 
 -- the counts go to a seat of their own
 abbrev pub without_count : Counting → Counting
