@@ -7,7 +7,7 @@ ghost use Rattle.async_tasks.specs.AsyncBooks.{IsPassOf, HasAdded};
 ghost use Rattle.async_tasks.specs.Passes.{seen, kept, LooksAgain};
 ghost use Rattle.async_tasks.specs.Starts.{IsAfter};
 
-use crate::gate::Gate;
+use crate::lock_gate::LockGate;
 use crate::outstanding::Outstanding;
 use crate::pass::Pass;
 use crate::ready_task::ReadyTask;
@@ -35,7 +35,7 @@ pub struct AsyncBook<W: AsyncWork> {
     // Whether some ready task may wait in the state, since the list had no room for it.
     pub(crate) left_over: AtomicBool,
     // Before the lock.
-    pub(crate) gate: Gate,
+    pub(crate) gate: LockGate,
 }
 
 impl<W: AsyncWork> Drop for AsyncBook<W> {
@@ -116,7 +116,8 @@ impl<W: AsyncWork> AsyncBook<W> {
 }
 
 impl<W: AsyncWork> AsyncBook<W> {
-    // Queues a ready task that was taken off the state, from outside.
+    // Queues a ready task that was taken off the state, from outside. Where the list has no room for it, it goes back to
+    // the state.
     fn inject<R: Wait>(&self, rt: &R, ready: Option<u32>) {
         let Some(task) = ready else { return };
         if self.ready.inject(rt, ReadyTask { task }).is_err() {
@@ -124,8 +125,8 @@ impl<W: AsyncWork> AsyncBook<W> {
         }
     }
 
-    // So in the deque of an owner.
-    fn push<R: Wait>(&self, rt: &R, owner: &mut Owner<ReadyTask>, ready: Option<u32>)
+    /// So in the deque of an owner.
+    pub(crate) fn push<R: Wait>(&self, rt: &R, owner: &mut Owner<ReadyTask>, ready: Option<u32>)
         requires { owner.old.tag ≡ [] }
         ensures { owner.new ≡ owner.old }
     {

@@ -7,7 +7,7 @@ ghost use Rattle.async_tasks.specs.Books.{key_of, book_key};
 ghost use Rattle.async_tasks.specs.AsyncBooks.{ArePassesOf, AreFirstPasses, IsSeatOf, IsNewSeatOf, async_book_state, caller_limit, counts_of};
 
 use crate::book::AsyncBook;
-use crate::gate::Gate;
+use crate::lock_gate::LockGate;
 use crate::opening::Opening;
 use crate::outstanding::Outstanding;
 use crate::pass::Pass;
@@ -61,7 +61,7 @@ impl<W: AsyncWork> AsyncBook<W> {
             ready,
             alloc,
             left_over: AtomicBool::new(false),
-            gate: Gate::new(),
+            gate: LockGate::new(),
         };
         Ok(AsyncParts {
             book,

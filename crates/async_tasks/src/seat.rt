@@ -70,7 +70,7 @@ impl<W: AsyncWork> AsyncSeat<W> {
                 Ok(Some(started)) => return self.carry_out(rt, book, started),
                 Ok(None) => (),
                 Err(error) => {
-                    let _ = self.owner.push(rt, item); // so that a later step may start it
+                    book.push(rt, &mut self.owner, Some(item.task)); // so that a later step may start it
                     return Err(error);
                 }
             }

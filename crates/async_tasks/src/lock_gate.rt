@@ -16,7 +16,7 @@ const TAKEN: u64 = 1;
 // that is inside can come back several times. What it works on is then still in the cache of its processor.
 const SPINS: u32 = 40;
 
-// How often a call looks before it sleeps, for how many microseconds, and how often it does so before it goes on anyway.
+// How often a call looks before it sleeps, for how many microseconds it sleeps, and how often before it goes on anyway.
 const LOOKS: u32 = 12;
 
 const NAP: u64 = 50;
@@ -25,14 +25,14 @@ const NAPS: u32 = 40;
 
 /// A gate before a lock, through which one call at a time goes.
 #[derive(Drop)]
-pub struct Gate {
+pub struct LockGate {
     word: CachePadded<AtomicU64>,
 }
 
-impl Gate {
+impl LockGate {
     /// Nobody is inside.
-    pub fn new() -> Gate {
-        Gate {
+    pub fn new() -> LockGate {
+        LockGate {
             word: CachePadded::new(AtomicU64::new(FREE)),
         }
     }
