@@ -20,3 +20,4 @@ pub mod WorkedParking
 pub mod WorkedEndValues
 pub mod WorkedEntries
 pub mod WorkedMachine
+pub mod NumbersFound

@@ -22,6 +22,7 @@
 //! - `WorkedEntries`: which tasks may be released, the one journal of the entries that seats have, when fates tell a run, and
 //!   what batches, shares and inputs say;
 //! - `WorkedEndValues`: the values of Ends that starts find and that a keeper has, and when they agree;
+//! - `NumbersFound`: where two numbers that a step of a rest may find leave the same notes, the same is answered for both;
 //! - `WorkedLines`: lines without an end, and words in them;
 //! - `WorkedGraphFiles`, `WorkedGraphJson`: which plan a graph file stands for, what is refused first, and how a plan is
 //!   written.

@@ -112,10 +112,10 @@ module _ (r s : TableId) (other : s ≢ r) (entries : Snapshot (Vec DeskEntry Gl
 
 -- ---- finished desks
 
-abbrev none : Ask
+abbrev pub none : Ask
 none = new_ask 0 0 0 0
 
-abbrev history : List DeskEntry
+abbrev pub history : List DeskEntry
 history = Asked none ∷ Took 0 ∷ Ended 0 true ∷ []
 
 -- A desk of one graph and one caller, who asked for no round of it.
@@ -123,7 +123,7 @@ module _ {J V : Type 0} (meaning : Meaning J V) (job : J) (run : FrameRun J V) w
   abbrev one_ask : DeskRun J V
   one_ask = record { history = history; runs = [] ∷ [] }
 
-  no_rounds : AreAllRounds meaning job (times 0) []
+  pub no_rounds : AreAllRounds meaning job (times 0) []
   no_rounds = record {
     first = record { rounds = record { kept = All-nil (IsKept meaning); first = tt; next = λ n. tt }; few = omega arith; went_on = λ n below. refl };
     over = inl refl;

@@ -1,11 +1,14 @@
 -- What serving a desk comes to, by what a pass has seen before and after.
-use Rattle.std.proofs.Common.{◌≡◌, Bool, true, false, List, [], ◌∷◌, ◌++◌, Some, length, sym, ap, ◌∙◌, subst, arith}
+use Rattle.std.proofs.Common.{◌≡◌, ◌≢◌, ℕ, Bool, true, false, List, [], ◌∷◌, ◌++◌, Some, length, refl, sym, ap, ◌∙◌, subst, arith}
+use Rattle.std.specs.Prelude.{◌≤◌, slice_get}
 use Rattle.std.proofs.lemmas.List.{length-append, length_push}
 use Rattle.std.specs.declared.alloc.Global.{Global}
 use Rattle.std.specs.declared.vec.Vec.{Vec}
 use Rattle.std.specs.declared.snapshot.Snapshot.{Snapshot}
 use Rattle.atomic_table.specs.Seated.{TableId}
 use Rattle.tickets.specs.Books.{ticket_state}
+use Rattle.topology_runs.specs.Told.{AreToldRounds}
+use Rattle.desk_book.specs.declared.entry.Ask.{Ask}
 use Rattle.desk_book.specs.declared.entry.DeskEntry.{DeskEntry}
 use Rattle.desk_book.specs.declared.entry.DeskEntry.TheVariants.{Took, Ended}
 use Rattle.desk_book.specs.declared.turn.Turn.TheVariants.{Waiting, Open, Over}
@@ -13,8 +16,12 @@ use Rattle.desk_book.specs.declared.outstanding.Outstanding.TheVariants.{Pass}
 use Rattle.desk_book.specs.Histories.{turn_of, IsFirstToTake, IsOldestWaiting, NoneWaits, EachIsPassedOver}
 use Rattle.desk_book.specs.Passes.{PassState, pass_state}
 use Rattle.run_desk.specs.declared.service.Served.TheVariants.{Ran, Cut, Busy, Empty}
-use Rattle.run_desk.specs.Serving.{HasServed, IsServed, WasCut}
-use Rattle.library_claims.proofs.WorkedDesks.{asked, one_open, two_open, turns, first_is_first, second_is_not_first, third_waits, third_is_passed_over, none_is_passed_over, none_waits, one_waits}
+use Rattle.run_desk.specs.Serving.{HasServed, IsServed, HasRunRounds, RunsRounds, WasCut}
+use Rattle.run_frame.specs.Meaning.{Meaning}
+use Rattle.run_frame.specs.declared.run.FrameRun.{FrameRun}
+use Rattle.nested_runs.specs.Rounds.{AreAllRounds, times}
+use Rattle.library_claims.proofs.WorkedDeskRuns.{none, history, no_rounds}
+use Rattle.library_claims.proofs.WorkedDesks.{some_same, asked, one_open, two_open, turns, first_is_first, second_is_not_first, third_waits, third_is_passed_over, none_is_passed_over, none_waits, one_waits}
 
 -- a run was cut, or not
 cut : WasCut (Cut 0) × ¬ WasCut (Ran 0) × ¬ WasCut (Busy 0) × ¬ WasCut Empty
@@ -95,3 +102,40 @@ module _ (r : TableId) (three whole short one second two all : Snapshot (Vec Des
 
   empty : IsServed (pass_with three) (pass_with all) Empty × ¬ IsServed (pass_with three) (pass_with two) Empty
   empty = (subst NoneWaits (sym has_all) none_waits, (λ is. one_waits (subst NoneWaits has_two is)))
+
+-- What the workers ran, where a caller asked for no round of the one graph that a desk has.
+module _ {J V X : Type 0} (meaning : Meaning J V) (told : X → ℕ) (job : J) (watcher other : X) (differ : watcher ≢ other) where
+  ran_one : HasRunRounds meaning told (job ∷ []) history (watcher ∷ []) (watcher ∷ []) 0
+  ran_one = record {
+    ask = none;
+    asked = refl;
+    job = job;
+    of_graph = refl;
+    runs = [];
+    rounds = no_rounds meaning job;
+    watched = λ there. refl;
+  }
+
+  -- not another ask, not of a graph that isn't there
+  ran_none : ¬ HasRunRounds {V = V} meaning told (job ∷ []) history (watcher ∷ []) (watcher ∷ []) 1 × ¬ HasRunRounds {V = V} meaning told [] history (watcher ∷ []) (watcher ∷ []) 0
+  ran_none = ((λ has. let e = has.asked in absurd (cc)), (λ has. let e = has.of_graph in absurd (cc)))
+
+  -- and watchers that were told of nothing stay as they are
+  ran_otherwise : ¬ HasRunRounds {V = V} meaning told (job ∷ []) history (watcher ∷ []) (other ∷ []) 0
+  ran_otherwise has = by_runs has.runs (few has.ask (some_same has.asked) has.rounds.first.few) (has.watched (λ is. absurd (cc)))
+    where
+      few : (ask : Ask) → none ≡ ask → length has.runs ≤ ask.times → length has.runs ≡ 0
+      few ask same less = let e = subst (λ (a : Ask). length has.runs ≤ a.times) (sym same) less in omega (arith, e)
+
+      by_runs : (runs : List (FrameRun J V)) → length runs ≡ 0 → AreToldRounds told runs (watcher ∷ []) (other ∷ []) → ⊥
+      by_runs [] count is = differ (sym (some_same (ap (λ xs. slice_get xs 0) is)))
+      by_runs (run ∷ more) count is = absurd (omega (arith, count))
+
+  ran_nothing : RunsRounds {V = V} meaning told (job ∷ []) history (watcher ∷ []) (watcher ∷ []) Empty × RunsRounds {V = V} meaning told (job ∷ []) history (watcher ∷ []) (watcher ∷ []) (Busy 0)
+  ran_nothing = (refl, refl)
+
+  ran_something : ¬ RunsRounds {V = V} meaning told (job ∷ []) history (watcher ∷ []) (other ∷ []) Empty × ¬ RunsRounds {V = V} meaning told (job ∷ []) history (watcher ∷ []) (other ∷ []) (Busy 0) × ¬ RunsRounds {V = V} meaning told (job ∷ []) history (watcher ∷ []) (other ∷ []) (Ran 0)
+  ran_something = (changes, changes, ran_otherwise)
+    where
+      changes : ¬ (other ∷ [] ≡ watcher ∷ [])
+      changes is = differ (sym (some_same (ap (λ xs. slice_get xs 0) is)))

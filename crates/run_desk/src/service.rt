@@ -2,8 +2,8 @@
 ghost use Rattle.std.specs.Prelude.{◌≡◌, length};
 ghost use Rattle.topology_runs.specs.Teams.{IsReady, watchers_of};
 ghost use Rattle.desk_book.specs.Desks.{IsPassOf};
-ghost use Rattle.desk_book.specs.Passes.{LooksAgain, kept};
-ghost use Rattle.run_desk.specs.Serving.{IsServed, WasCut};
+ghost use Rattle.desk_book.specs.Passes.{LooksAgain, kept, seen};
+ghost use Rattle.run_desk.specs.Serving.{IsServed, RunsRounds, WasCut};
 
 use desk_book::{Desk, DeskPass, TakeAnswer};
 use nested_runs::Recurs;
@@ -30,8 +30,9 @@ pub enum Served {
 
 /// Takes the first ask whose turn has come, has its rounds run by the team, and hands them in. It may wait for the
 /// desk, and for the end of its team's runs; no lock is held while a graph runs. It looks at the desk in each call, and
-/// its answer is what the pass has then seen. After `Cut` the team runs no further job.
-#[tactic(auto, using(crate::proofs::Serving::looks_twice, crate::proofs::Serving::has_served, crate::proofs::Serving::rounds_of))]
+/// its answer is what the pass has then seen. Where an ask was served whole, the team's watchers were told of its rounds,
+/// and where none was served, of nothing. After `Cut` the team runs no further job.
+#[tactic(auto, using(crate::proofs::Serving::looks_twice, crate::proofs::Serving::has_served, crate::proofs::Serving::rounds_of, crate::proofs::Serving::has_run_rounds))]
 pub fn serve<J: Recurs + Drop, X: Watch, E: EntersEach<J, X>, R: Threads + Wait + Sync>(
     rt: &R,
     alloc: Global,
@@ -45,6 +46,8 @@ pub fn serve<J: Recurs + Drop, X: Watch, E: EntersEach<J, X>, R: Threads + Wait 
     ensures looks { LooksAgain pass.old pass.new }
     ensures kept { kept pass.new ≡ kept pass.old }
     ensures served { IsServed pass.old pass.new result }
+    ensures rounds { RunsRounds J.Job.meaning X.told desk.now.jobs (seen pass.new)
+        (watchers_of team.old) (watchers_of team.new) result }
     ensures ready { (WasCut result → ⊥) → IsReady team.new }
     ensures count { length (watchers_of team.new) ≡ length (watchers_of team.old) }
 {
