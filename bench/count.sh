@@ -1,8 +1,8 @@
 #!/usr/bin/env bash
 # Measures `flow count` on texts of 16 MB with lines of random hexadecimal digits, of 7, 16 and 100 bytes with their
-# ends: the lines in which `abcd` occurs, by one worker and by four, in chunks of one line and of the default, beside
-# `grep -Fc` and `flow run` with a keep and a count by one worker; and the same command on an empty text, which is what
-# a call takes besides. The kinds of calls are taken in turn, eleven of each or as many as the first argument says. It
+# ends: the lines in which `abcd` occurs, by one worker, and by four in chunks of the default and of one line at least,
+# beside `grep -Fc` and `flow run` with a keep and a count by one worker; and the same command on an empty text, which is
+# what a call takes besides. The kinds of calls are taken in turn, eleven of each or as many as the first argument says. It
 # prints the median and the least time of each and says the load before and after. It needs python3; run it as `bash
 # bench/count.sh`, from any folder, on a machine with four idle processors.
 set -euo pipefail
@@ -48,7 +48,7 @@ def measure(calls):
         for name, words in calls.items():
             times[name].append(seconds(words))
     for name, taken in times.items():
-        print(f"  {name:32} {statistics.median(taken) * 1000:8.1f} ms, least {min(taken) * 1000:8.1f}")
+        print(f"  {name:34} {statistics.median(taken) * 1000:8.1f} ms, least {min(taken) * 1000:8.1f}")
     return {name: min(taken) for name, taken in times.items()}
 
 
@@ -64,11 +64,11 @@ for width in (7, 16, 100):
         "run, one worker": [FLOW, "run", graph, "--workers", "1"],
         "count, one worker": [FLOW, "count", "abcd", text, "--workers", "1"],
         "count, four workers": [FLOW, "count", "abcd", text, "--workers", "4"],
-        "count, one worker, chunks of one": [FLOW, "count", "abcd", text, "--workers", "1", "--grain", "1"],
+        "count, four workers, chunks of one": [FLOW, "count", "abcd", text, "--workers", "4", "--grain", "1"],
     })
-    one = least["count, one worker"]
+    one, four = least["count, one worker"], least["count, four workers"]
     print(f"  of grep {one / least['grep -Fc']:.2f}, of run {one / least['run, one worker']:.2f}; "
-          f"four workers {one / least['count, four workers']:.2f} times as fast; "
-          f"chunks of one line {least['count, one worker, chunks of one'] / one:.2f}")
+          f"four workers {one / four:.2f} times as fast; "
+          f"in chunks of one line {least['count, four workers, chunks of one'] / four:.2f} of theirs")
 PYTHON
 uptime

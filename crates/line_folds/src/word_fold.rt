@@ -85,8 +85,8 @@ impl<'t> Fold for WordFold<'t> {
     ghost lawful = { word_fold_lawful };
 }
 
-/// In how many lines of a text the word occurs, by several workers, each of which draws chunks of at least `grain`
-/// lines. The empty word occurs in every line, and one with a line end in none.
+/// In how many lines of a text the word occurs: by one worker, who searches the whole text, or by several, each of whom
+/// draws chunks of at least `grain` lines. The empty word occurs in every line, and one with a line end in none.
 pub fn count_lines_with<R: Threads + Sync>(
     rt: &R,
     alloc: Global,
