@@ -28,8 +28,8 @@ IsServed old new (Cut n) = HasServed old new n false
 IsServed old new (Busy n) = IsOldestWaiting (seen new) n × EachIsPassedOver (seen new)
 IsServed old new Empty = NoneWaits (seen new)
 
--- All rounds that an ask of this history asked for were run, of its graph's job. The workers' watchers, if there are any,
--- were told of these runs in between.
+-- There are runs that are all rounds which an ask of this history asked for, of its graph's job. The workers' watchers, if
+-- there are any, were told in between as many spans as these runs have.
 pub record HasRunRounds {J V X : Type 0} (meaning : Meaning J V) (told : X → ℕ) (jobs : List J) (history : List DeskEntry) (old new : List X) (n : ℕ) : Type 0 where
   pub ask : Ask
   pub asked : slice_get (asks_of history) n ≡ Some ask
@@ -39,8 +39,8 @@ pub record HasRunRounds {J V X : Type 0} (meaning : Meaning J V) (told : X → �
   pub rounds : AreAllRounds meaning job (times ask.times) runs
   pub watched : old ≢ [] → AreToldRounds told runs old new
 
--- What the workers ran: where an ask was served whole, its rounds; where none was served, nothing. Nothing is said where
--- an allocation failed.
+-- What the workers' watchers were told: where an ask was served whole, the spans of its rounds; where none was served,
+-- nothing. Nothing is said where an allocation failed.
 abbrev pub RunsRounds : {J V X : Type 0} → Meaning J V → (X → ℕ) → List J → List DeskEntry → List X → List X → Served → Type 0
 RunsRounds meaning told jobs history old new (Ran n) = HasRunRounds meaning told jobs history old new n
 RunsRounds meaning told jobs history old new (Cut n) = Unit {0}
