@@ -1,5 +1,5 @@
 -- What serving a desk comes to, by what a pass has seen before and after.
-use Rattle.std.proofs.Common.{◌≡◌, ◌≢◌, ℕ, Bool, true, false, List, [], ◌∷◌, ◌++◌, Some, length, refl, sym, ap, ◌∙◌, subst, arith}
+use Rattle.std.proofs.Common.{◌≡◌, ◌≢◌, ℕ, Bool, true, false, List, [], ◌∷◌, ◌++◌, Some, length, ◌⊎◌, inl, inr, refl, sym, ap, ◌∙◌, subst, arith}
 use Rattle.std.specs.Prelude.{◌≤◌, slice_get}
 use Rattle.std.proofs.lemmas.List.{length-append, length_push}
 use Rattle.std.specs.declared.alloc.Global.{Global}
@@ -10,16 +10,17 @@ use Rattle.tickets.specs.Books.{ticket_state}
 use Rattle.topology_runs.specs.Told.{AreToldRounds}
 use Rattle.desk_book.specs.declared.entry.Ask.{Ask}
 use Rattle.desk_book.specs.declared.entry.DeskEntry.{DeskEntry}
-use Rattle.desk_book.specs.declared.entry.DeskEntry.TheVariants.{Took, Ended}
+use Rattle.desk_book.specs.declared.entry.DeskEntry.TheVariants.{Asked, Took, Ended}
 use Rattle.desk_book.specs.declared.turn.Turn.TheVariants.{Waiting, Open, Over}
 use Rattle.desk_book.specs.declared.outstanding.Outstanding.TheVariants.{Pass}
+use Rattle.desk_book.specs.Asks.{new_ask}
 use Rattle.desk_book.specs.Histories.{turn_of, IsFirstToTake, IsOldestWaiting, NoneWaits, EachIsPassedOver}
 use Rattle.desk_book.specs.Passes.{PassState, pass_state}
 use Rattle.run_desk.specs.declared.service.Served.TheVariants.{Ran, Cut, Busy, Empty}
 use Rattle.run_desk.specs.Serving.{HasServed, IsServed, HasRunRounds, RunsRounds, WasCut}
 use Rattle.run_frame.specs.Meaning.{Meaning}
 use Rattle.run_frame.specs.declared.run.FrameRun.{FrameRun}
-use Rattle.nested_runs.specs.Rounds.{AreAllRounds, times}
+use Rattle.nested_runs.specs.Rounds.{AreAllRounds, LastWasCut, times}
 use Rattle.library_claims.proofs.WorkedDeskRuns.{none, history, no_rounds}
 use Rattle.library_claims.proofs.WorkedDesks.{some_same, asked, one_open, two_open, turns, first_is_first, second_is_not_first, third_waits, third_is_passed_over, none_is_passed_over, none_waits, one_waits}
 
@@ -139,3 +140,27 @@ module _ {J V X : Type 0} (meaning : Meaning J V) (told : X → ℕ) (job : J) (
     where
       changes : ¬ (other ∷ [] ≡ watcher ∷ [])
       changes is = differ (sym (some_same (ap (λ xs. slice_get xs 0) is)))
+
+-- What the workers ran, where a caller asked for one round of the second of two graphs.
+abbrev one_round : Ask
+one_round = new_ask 0 0 1 1
+
+abbrev of_the_second : List DeskEntry
+of_the_second = Asked one_round ∷ Took 0 ∷ Ended 0 true ∷ []
+
+module _ {J V X : Type 0} (meaning : Meaning J V) (told : X → ℕ) (another job : J) (old new : List X) (has : HasRunRounds {V = V} meaning told (another ∷ job ∷ []) of_the_second old new 0) where
+  its_ask : has.ask ≡ one_round
+  its_ask = sym (some_same has.asked)
+
+  -- it is a round of that graph's job
+  ran_its_job : has.job ≡ job
+  ran_its_job = sym (some_same (ap (λ (ask : Ask). slice_get (another ∷ job ∷ []) ask.graph) (sym its_ask) ∙ has.of_graph))
+
+  -- and there is one
+  ran_one_at_least : has.runs ≢ []
+  ran_one_at_least none = by_end (subst (λ runs. AreAllRounds meaning has.job (times has.ask.times) runs) none has.rounds).over
+    where
+      by_end : (length {A = FrameRun J V} [] ≡ has.ask.times) ⊎ (false ≡ true) ⊎ LastWasCut {J = J} {V = V} [] → ⊥
+      by_end (inl count) = let one = ap (λ (ask : Ask). ask.times) its_ask in absurd (omega (arith, count, one))
+      by_end (inr (inl is)) = absurd (cc)
+      by_end (inr (inr cut)) = cut
