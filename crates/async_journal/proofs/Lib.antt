@@ -1,5 +1,6 @@
 mod ByPlace
 mod Building
+mod Refusing
 mod Tables
 mod RunEdges
 mod RunEvents

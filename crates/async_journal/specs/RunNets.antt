@@ -1,8 +1,8 @@
 -- The net of a run of async tasks.
-use Rattle.std.specs.Prelude.{ℕ, false, List, [], ◌++◌, length, map, replicate}
-use Rattle.std.specs.List.{flat_map}
+use Rattle.std.specs.Prelude.{ℕ, ◌<◌, ◌≤◌, false, List, [], ◌++◌, length, map, replicate}
+use Rattle.std.specs.List.{flat_map, AllByRecursion}
 use Rattle.task_graph.specs.NetRows.{NetRows}
-use Rattle.task_graph.specs.NetBuilder.{empty_net}
+use Rattle.task_graph.specs.NetBuilder.{empty_net, edge_limit, task_limit}
 use Rattle.task_graph.specs.declared.net.TaskRow.{TaskRow}
 use Rattle.task_graph.specs.declared.net.EdgeRow.{EdgeRow}
 use Rattle.task_graph.specs.declared.net.Shape.TheVariants.{Plain}
@@ -30,3 +30,14 @@ with_edge_rows net edges = record { tasks = net.tasks; edges = net.edges ++ edge
 -- the net of adds: a plain task for each, and the edges of all
 abbrev pub run_net : List AddRow → NetRows
 run_net adds = with_edge_rows (with_plain_tasks empty_net (length adds)) (flat_map edges_of_add adds)
+
+-- an edge from one of so many tasks to one of them
+abbrev pub JoinsTasks : ℕ → EdgeRow → Type 0
+JoinsTasks tasks edge = (edge.from < tasks) × (edge.to < tasks)
+
+-- A net can be built of these adds: there are few enough tasks and edges for one, and each edge is from the task of an
+-- add to the task of an add.
+pub record FitsBuilder (adds : List AddRow) : Type 0 where
+  pub tasks : length adds ≤ task_limit
+  pub edges : length (flat_map edges_of_add adds) ≤ edge_limit
+  pub known : AllByRecursion (JoinsTasks (length adds)) (flat_map edges_of_add adds)
