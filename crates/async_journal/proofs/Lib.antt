@@ -1,6 +1,7 @@
 mod ByPlace
 mod Building
 mod Refusing
+mod BookAdds
 mod Tables
 mod RunEdges
 mod RunEvents

@@ -30,7 +30,7 @@ use Rattle.async_tasks.specs.Histories.{times_ended, AllEnded}
 use Rattle.async_journal.specs.RunNets.{plain_task, run_net}
 use Rattle.async_journal.specs.RunJournals.{named_by, cause_after, part_of, end_gives, entry_of, run_journal}
 use Rattle.async_journal.specs.WholeJournals.{IsFinishedHistory, IsWholeJournal}
-use Rattle.async_journal.proofs.ByPlace.{not_true, in_range, in_mapped, mapped_get, none_pass, some_pass, one_passes, each_after, copy_at, some_in, zip_empty, empty_zip, zip_filled, zip_all, zip_mapped, all_of, all_below, least_ones, get_below, fewer_keys}
+use Rattle.async_journal.proofs.ByPlace.{not_true, in_mapped, mapped_get, none_pass, some_pass, one_passes, each_after, copy_at, some_in, zip_empty, empty_zip, zip_filled, zip_all, zip_mapped, all_of, all_below, least_ones, get_below, fewer_keys}
 use Rattle.async_journal.proofs.RunEdges.{IsEdge, strong_edges, no_weak}
 use Rattle.async_journal.proofs.RunEvents as run
 use Rattle.async_journal.proofs.RunEvents.{task_count}

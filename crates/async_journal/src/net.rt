@@ -4,6 +4,7 @@ ghost use Rattle.std.specs.List.{flat_map, AllByRecursion};
 ghost use Rattle.task_graph.specs.declared.builder.BuildError.TheVariants.{NoMemory};
 ghost use Rattle.task_graph.specs.NetBuilder.{edge_limit, task_limit};
 ghost use Rattle.async_journal.specs.RunNets.{edges_into, edges_of_add, run_net, with_edge_rows, with_plain_tasks, FitsBuilder, JoinsTasks};
+ghost use Rattle.async_journal.specs.WholeJournals.{AreBookAdds};
 
 use async_tasks::AddRow;
 use outside_io::List;
@@ -11,11 +12,13 @@ use std::alloc::Global;
 use task_graph::{BuildError, Net, NetBuilder, Shape};
 
 /// The net of these adds: a plain task for each, and an edge from each task that it names, in the order named. An
-/// `Err` is that of the builder: of adds of which a net can be built it is returned only where an allocation fails.
-#[tactic(auto, using(crate::proofs::Refusing::adds_refused, crate::proofs::Refusing::joins_refused))]
+/// `Err` is that of the builder: of the adds of a finished run, which are within the limits of a book, it is returned
+/// only where an allocation fails.
+#[tactic(auto, using(crate::proofs::Refusing::adds_refused, crate::proofs::Refusing::joins_refused, crate::proofs::BookAdds::book_adds_refused))]
 pub fn net_of_adds(alloc: Global, adds: &[AddRow]) -> Result<Net, BuildError>
     ensures net { IfOk result (λ net. net ≡ run_net adds.now) }
     ensures refused { IfErr result (λ error. FitsBuilder adds.now → error ≡ NoMemory) }
+    ensures book { IfErr result (λ error. AreBookAdds adds.now → error ≡ NoMemory) }
 {
     let mut builder = NetBuilder::new(alloc);
     add_tasks(alloc, &mut builder, adds.len())?;

@@ -1,8 +1,9 @@
 -- The net and the journal of a run of async tasks, which histories are finished, and which journals are whole.
-use Rattle.std.proofs.Common.{◌≡◌, ℕ, zero, suc, ◌<◌, List, [], ◌∷◌, false, None, refl, arith}
+use Rattle.std.proofs.Common.{◌≡◌, ℕ, zero, suc, ◌<◌, ◌≤◌, List, [], ◌∷◌, length, false, None, refl, arith}
 use Rattle.std.specs.Prelude.{slice_get}
 use Rattle.std.proofs.lemmas.Bool.{false≢true}
 use Rattle.task_graph.specs.NetRows.{NetRows}
+use Rattle.task_graph.specs.NetBuilder.{task_limit}
 use Rattle.task_graph.specs.declared.net.EdgeRow.{EdgeRow}
 use Rattle.task_graph.specs.declared.net.Shape.TheVariants.{Plain}
 use Rattle.journal_rules.specs.declared.entry.Cause.TheVariants.{Source, Strong}
@@ -11,12 +12,13 @@ use Rattle.journal_rules.specs.declared.entry.Entry.TheVariants.{Start, End}
 use Rattle.async_tasks.specs.declared.history.AddRow.{AddRow}
 use Rattle.async_tasks.specs.declared.history.TaskEvent.{TaskEvent}
 use Rattle.async_tasks.specs.declared.history.TaskEvent.TheVariants.{Started, Ended}
+use Rattle.async_tasks.specs.Adds.{after_limit, task_limit as book_limit}
 use Rattle.async_tasks.specs.Histories.{is_start_of, is_end_of, times_started, times_ended}
 use Rattle.async_tasks.specs.declared.run.AsyncRun.{AsyncRun}
 use Rattle.async_tasks.specs.Runs.{IsAsyncRun}
-use Rattle.async_journal.specs.RunNets.{plain_task, edges_into, edges_of_add, with_plain_tasks, with_edge_rows, run_net}
+use Rattle.async_journal.specs.RunNets.{plain_task, edges_into, edges_of_add, with_plain_tasks, with_edge_rows, run_net, FitsBuilder, JoinsTasks}
 use Rattle.async_journal.specs.RunJournals.{place_of, named_by, cause_after, part_of, end_gives, entry_of, run_journal}
-use Rattle.async_journal.specs.WholeJournals.{IsFinishedHistory, IsWholeJournal}
+use Rattle.async_journal.specs.WholeJournals.{IsFinishedHistory, AreBookAdds, IsWholeJournal}
 use Rattle.library_claims.proofs.WorkedHistories.{add}
 
 abbrev edge : ℕ → ℕ → EdgeRow
@@ -43,6 +45,23 @@ edges_more = refl
 
 its_net : run_net adds ≡ net
 its_net = refl
+
+-- a net can be built of these adds, but not of one that names a task that isn't there, nor of too many
+its_ends : JoinsTasks 2 (edge 0 1) × ¬ JoinsTasks 2 (edge 2 1) × ¬ JoinsTasks 2 (edge 0 2)
+its_ends = ((omega arith, omega arith), (λ joins. absurd (omega (arith, joins.0))), (λ joins. absurd (omega (arith, joins.1))))
+
+fitting : FitsBuilder adds
+fitting = record {
+  tasks = let few : 3 ≤ 4000000 = omega arith in few;
+  edges = let few : 4 ≤ 8000000 = omega arith in few;
+  known = ((omega arith, omega arith), ((omega arith, omega arith), ((omega arith, omega arith), ((omega arith, omega arith), tt))));
+}
+
+names_no_task : ¬ FitsBuilder (add 0 0 (1 ∷ []) 0 ∷ [])
+names_no_task fits = absurd (omega (arith, fits.known.0.0))
+
+too_many : (rows : List AddRow) → task_limit < length rows → ¬ FitsBuilder rows
+too_many rows more fits = let few = fits.tasks in absurd (omega (arith, more, few))
 
 -- at which index each task was started and ended; 0 where it wasn't or wasn't added
 its_places : (place_of is_start_of adds events 1 ≡ 2) × (place_of is_end_of adds events 1 ≡ 3) × (place_of is_end_of adds (Started 0 ∷ []) 0 ≡ 0) × (place_of is_end_of [] events 1 ≡ 0)
@@ -84,6 +103,24 @@ unfinished = ((λ h. absurd (omega (arith, (h.each 0 (omega arith)).1))), (λ h.
 
 ended_before_its_start : ¬ IsFinishedHistory one (Ended 0 ∷ Started 0 ∷ [])
 ended_before_its_start h = absurd (omega (arith, h.history.each_event.0.0))
+
+-- adds that a book takes, and others that it doesn't
+book_adds : AreBookAdds one
+book_adds = record {
+  events = Started 0 ∷ Ended 0 ∷ [];
+  history = finished;
+  count = let few : 1 ≤ 100000 = omega arith in few;
+  after = (let none : 0 ≤ 64 = omega arith in none, tt);
+}
+
+wrong_number : ¬ AreBookAdds (add 0 1 [] 0 ∷ [])
+wrong_number book = let number = book.history.history.each_row.0.id in absurd (omega (arith, number))
+
+names_too_many : (after : List ℕ) → after_limit < length after → ¬ AreBookAdds (add 0 0 after 0 ∷ [])
+names_too_many after more book = let few = book.after.0 in absurd (omega (arith, more, few))
+
+too_many_for_a_book : (rows : List AddRow) → book_limit < length rows → ¬ AreBookAdds rows
+too_many_for_a_book rows more book = let few = book.count in absurd (omega (arith, more, few))
 
 -- what a finished book gives has such a history
 finished_of_a_run : {W V : Type 0} (answers : W → List V → V → Type 0) (callers : ℕ) (run : AsyncRun W V) → IsAsyncRun answers callers run → IsFinishedHistory run.adds run.events
