@@ -43,10 +43,10 @@ pub rounds_of : {J V : Type 0} (meaning : Meaning J V) (jobs : List J) (ask : As
 rounds_of meaning jobs ask job whole runs at rounds = subst (λ o. IfSome o (λ j. AreRounds meaning whole j ask.times runs)) (sym at) rounds
 
 -- all rounds of an ask were run before it ended
-pub has_run_rounds : {J V X : Type 0} (meaning : Meaning J V) (told : X → ℕ) (jobs : List J) (history : List DeskEntry) (taken : OpenAsk) (job : J) (runs : List (FrameRun J V)) (old new : List X) (n : ℕ) → HasEnded history taken true → n ≡ taken.ask.number → slice_get jobs taken.ask.graph ≡ Some job → AreAllRounds meaning job (times taken.ask.times) runs → (old ≢ [] → AreToldRounds told runs old new) → HasRunRounds meaning told jobs history old new n
-has_run_rounds meaning told jobs history taken job runs old new n ended same at rounds watched = record {
-  ask = taken.ask;
-  asked = ap (λ entries. slice_get (asks_of entries) n) ended.last ∙ ap (λ asks. slice_get asks n) (asks_ended ended.before taken.ask.number true) ∙ ap (slice_get (asks_of ended.before)) same ∙ ended.ask;
+pub has_run_rounds : {J V X : Type 0} (meaning : Meaning J V) (told : X → ℕ) (jobs : List J) (history : List DeskEntry) (taken : OpenAsk) (ask : Ask) (job : J) (runs : List (FrameRun J V)) (old new : List X) → HasEnded history taken true → ask ≡ taken.ask → slice_get jobs ask.graph ≡ Some job → AreAllRounds meaning job (times ask.times) runs → (old ≢ [] → AreToldRounds told runs old new) → HasRunRounds meaning told jobs history old new ask.number
+has_run_rounds meaning told jobs history taken ask job runs old new ended same at rounds watched = record {
+  ask = ask;
+  asked = ap (λ entries. slice_get (asks_of entries) ask.number) ended.last ∙ ap (λ asks. slice_get asks ask.number) (asks_ended ended.before taken.ask.number true) ∙ ap (λ (a : Ask). slice_get (asks_of ended.before) a.number) same ∙ ended.ask ∙ ap Some (sym same);
   job = job;
   of_graph = at;
   runs = runs;
