@@ -2,7 +2,7 @@
 use crate::inputs::{CallInputs, inputs_of};
 use crate::seen_runs::{Sight, shown_run};
 use crate::wanted::wanted_of;
-use crate::watchers::{Handed, shown_watchers, watchers_of};
+use crate::watchers::{Handed, KnownCount, Shared, shown_watchers};
 use call_status::Noted;
 use flow_run::{CallResult, flow_main};
 use outside_io::NoMemory;
@@ -49,47 +49,18 @@ fn row_of(line: &str) -> Row<'_> {
 // The numbers of workers that a star in the words stands for, one after the other.
 const WORKERS: [&str; 3] = ["1", "4", "16"];
 
-// The call of a table whose rows are whole calls.
-pub const CALL: &str = "@1 -> @2 -> @3 -> @4";
-
-// A table of calls: a graph, which is found as `g`, a call of it, and rows. In the graph and in the call `@1`, `@2` and
-// so on stand for the parts of a row, which have ` -> ` between them.
-#[derive(Clone, Copy)]
-pub struct Table {
-    pub graph: &'static str,
-    pub call: &'static str,
-    pub rows: &'static str,
-}
-
-// The first call of these tables that isn't as it says, with what was seen; or nothing.
-pub fn first_difference<R: Threads + Wait + Sync>(
+// What was seen of the first call of a row that isn't as it says, or nothing. In the graph and in the call `@1`, `@2`
+// and so on stand for the parts of the row, which have ` -> ` between them.
+pub fn row_difference<R: Threads + Wait + Sync>(
     rt: &R,
     alloc: Global,
-    tables: &[Table],
+    graph: &str,
+    call: &str,
+    row: &str,
 ) -> Result<String, NoMemory> {
-    for table in tables {
-        let difference = first_in_table(rt, alloc, table)?;
-        if !difference.is_empty() {
-            return Ok(difference);
-        }
-    }
-    Ok(String::new(alloc))
-}
-
-fn first_in_table<R: Threads + Wait + Sync>(
-    rt: &R,
-    alloc: Global,
-    table: &Table,
-) -> Result<String, NoMemory> {
-    for row in table.rows.split('\n') {
-        let graph = filled(alloc, table.graph, row)?;
-        let call = filled(alloc, table.call, row)?;
-        let difference = first_by_workers(rt, alloc, graph.as_str(), row_of(call.as_str()))?;
-        if !difference.is_empty() {
-            return Ok(difference);
-        }
-    }
-    Ok(String::new(alloc))
+    let graph = filled(alloc, graph, row)?;
+    let call = filled(alloc, call, row)?;
+    first_by_workers(rt, alloc, graph.as_str(), row_of(call.as_str()))
 }
 
 // A pattern with the parts of a row in it.
@@ -144,15 +115,16 @@ fn difference<R: Threads + Wait + Sync>(
     )?)
 }
 
-// How a call ended, and its sinks.
-#[derive(Drop)]
-struct Called {
-    outcome: CallResult,
-    out: MemorySink,
-    notes: MemorySink,
+/// How a call ended, and its sinks. The end of a call isn't dropped, but taken by `CallResult::into_code`: a crate that
+/// drops it has to prove anew how all that it holds is dropped.
+pub struct Called {
+    pub outcome: CallResult,
+    pub out: MemorySink,
+    pub notes: MemorySink,
 }
 
-fn call<R: Threads + Wait + Sync>(
+/// A call of these inputs with these watchers.
+pub fn end_of_call<R: Threads + Wait + Sync>(
     rt: &R,
     alloc: Global,
     inputs: CallInputs,
@@ -181,24 +153,20 @@ fn call<R: Threads + Wait + Sync>(
     }
 }
 
-/// How a call of these words ended that finds the graph as `g`, and these texts, with these watchers.
-pub fn outcome_of<R: Threads + Wait + Sync>(
-    rt: &R,
+/// The inputs of a call of these words that finds the graph as `g`, and these texts.
+pub fn plain_inputs(
     alloc: Global,
     graph: &str,
     words: &str,
     texts: &str,
-    watchers: Vec<Box<dyn Watch + Send>>,
-) -> Result<CallResult, NoMemory> {
+) -> Result<CallInputs, NoMemory> {
     let row = Row {
         words,
         texts,
         failing: "-",
         seen: "",
     };
-    let inputs = inputs_of(alloc, graph, row)?;
-    let Called { outcome, .. } = call(rt, alloc, inputs, watchers);
-    Ok(outcome)
+    inputs_of(alloc, graph, row)
 }
 
 // What is seen of a call.
@@ -210,12 +178,17 @@ fn shown<R: Threads + Wait + Sync>(
 ) -> Result<String, NoMemory> {
     let inputs = inputs_of(alloc, graph, row)?;
     let handed = inputs.handed;
-    let watchers = watchers_of(alloc, handed)?;
+    let shared = Shared::of(alloc, handed)?;
+    let mut watchers: Vec<Box<dyn Watch + Send>> = Vec::new(alloc);
+    for place in 0..handed.watchers {
+        let watcher = KnownCount::at(place, &shared)?;
+        watchers.push(Box::new(alloc, watcher)?)?;
+    }
     let Called {
         outcome,
         out,
         notes,
-    } = call(rt, alloc, inputs, watchers);
+    } = end_of_call(rt, alloc, inputs, watchers);
     let end = shown_outcome(alloc, &outcome, handed, sight_of(row.failing));
     let _code = outcome.into_code();
     shown_end(alloc, end, &out, &notes)

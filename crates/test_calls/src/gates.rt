@@ -1,17 +1,16 @@
 // Runs whose watchers wait for one another: workers that don't work at the same time never meet.
 ghost use Rattle.std.specs.Prelude.{None};
 
-use crate::calls::outcome_of;
+use crate::calls::{Called, end_of_call, plain_inputs};
 use crate::run_spans::count_spans;
+use flow_run::CallResult;
 use journal_rules::Span;
 use outside_io::NoMemory;
 use span_profile::Watch;
 use std::alloc::Global;
-use std::process::Abort;
 use std::sync::atomic::AtomicU64;
 use std::sync::atomic::Ordering::SeqCst;
 use std::sync::{Arc, Wait};
-use std::test::Fail;
 use std::thread::{Threads, yield_now};
 
 // How often a watcher looks for the others.
@@ -71,53 +70,57 @@ impl Watch for Gate {
     }
 }
 
-#[test]
-fn two_gates(rt: HostRuntime) -> Result<(), Fail> {
-    let graph = r#"{"tasks":[{"name":"a","op":"input"},{"name":"b","op":"input"}]}"#;
-    check_gates(&rt, rt.alloc(), graph, "run g --workers 2", 2)
-}
+/// Two tasks.
+pub const TWO_TASKS: &str = r#"{"tasks":[{"name":"a","op":"input"},{"name":"b","op":"input"}]}"#;
 
-#[test]
-fn four_gates_before_many_tasks(rt: HostRuntime) -> Result<(), Fail> {
-    check_gates(&rt, rt.alloc(), "300 TASKS", "run g --workers 4", 4)
-}
-
-// In a run by so many workers each watcher meets the others, and together they are told each span.
-fn check_gates<R: Threads + Wait + Abort + Sync>(
+/// What is seen of as many watchers as workers that wait for one another, behind the name of the test: the exit code,
+/// how many of them met the others, and how many spans they were told together, of how many.
+pub fn seen_gates<R: Threads + Wait + Sync>(
     rt: &R,
     alloc: Global,
+    test: &str,
     graph: &str,
-    words: &str,
     workers: u64,
-) -> Result<(), Fail> {
-    let meeting = Arc::new(
-        alloc,
-        Meeting {
-            watchers: workers,
-            come: AtomicU64::new(0),
-            met: AtomicU64::new(0),
-        },
-    )?;
-    let watchers = gates_to(alloc, &meeting)?;
-    let outcome = outcome_of(rt, alloc, graph, words, "-", watchers)?;
-    assert_eq!(rt; outcome.status.code(), 0);
-    assert_eq!(rt; meeting.met.load(SeqCst), workers);
-    let told = counted_by(outcome.watchers.as_slice());
-    assert_eq!(rt; told, count_spans(outcome.runs.as_slice()));
-    Ok(())
-}
-
-// A watcher for each place at a meeting.
-fn gates_to(alloc: Global, meeting: &Arc<Meeting>) -> Result<Vec<Box<dyn Watch + Send>>, NoMemory> {
+) -> Result<String, NoMemory> {
+    let meeting = Meeting {
+        watchers: workers,
+        come: AtomicU64::new(0),
+        met: AtomicU64::new(0),
+    };
+    let meeting = Arc::new(alloc, meeting)?;
     let mut gates: Vec<Box<dyn Watch + Send>> = Vec::new(alloc);
-    for _place in 0..meeting.watchers {
+    for _place in 0..workers {
         let gate = Gate {
             count: 0,
-            meeting: Arc::try_clone(meeting)?,
+            meeting: Arc::try_clone(&meeting)?,
         };
         gates.push(Box::new(alloc, gate)?)?;
     }
-    Ok(gates)
+    let words = format!(in alloc; "run g --workers {workers}")?;
+    let inputs = plain_inputs(alloc, graph, words.as_str(), "-")?;
+    let Called {
+        outcome,
+        out: _out,
+        notes: _notes,
+    } = end_of_call(rt, alloc, inputs, gates);
+    let seen = shown_meeting(alloc, test, &outcome, &meeting);
+    let _code = outcome.into_code();
+    seen
+}
+
+fn shown_meeting(
+    alloc: Global,
+    test: &str,
+    outcome: &CallResult,
+    meeting: &Meeting,
+) -> Result<String, NoMemory> {
+    Ok(format!(in alloc;
+        "{test}: code {}, met {}, told {} of {}",
+        outcome.status.code(),
+        meeting.met.load(SeqCst),
+        counted_by(outcome.watchers.as_slice()),
+        count_spans(outcome.runs.as_slice())
+    )?)
 }
 
 // How many spans these watchers were told together.

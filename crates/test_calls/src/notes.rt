@@ -2,25 +2,25 @@
 use call_status::{Noted, Status, put_note};
 use graph_file::GraphError;
 use graph_plans::Spot;
-use outside_io::List;
 use outside_io::for_tests::MemorySink;
-use std::test::Fail;
+use outside_io::{List, NoMemory};
+use std::alloc::Global;
+use std::str;
 
-#[test]
-fn puts_the_line_and_for_done_nothing(rt: HostRuntime) -> Result<(), Fail> {
-    let mut notes = MemorySink::new(rt.alloc(), List::new(rt.alloc()));
-    assert_eq!(rt;
-        put_note(rt.alloc(), &mut notes, None, &Status::Done),
-        Noted::Whole
-    );
-    let field = List::from_slice(rt.alloc(), b"sem")?;
+/// What is put for a status of which nothing is to be said, and then for one that no call here ends with, and whether
+/// either is whole.
+pub fn puts_the_line_and_for_done_nothing(alloc: Global) -> Result<String, NoMemory> {
+    let mut notes = MemorySink::new(alloc, List::new(alloc));
+    let done = put_note(alloc, &mut notes, None, &Status::Done);
+    let field = List::from_slice(alloc, b"sem")?;
     let error = GraphError::NoSuchName(Spot::ModuleTask(12, 4294967295), field);
-    let status = Status::BadGraph(error);
-    assert_eq!(rt;
-        put_note(rt.alloc(), &mut notes, None, &status),
-        Noted::Whole
-    );
-    let line = b"flow: bad graph: no such name in sem of module 12 task 4294967295\n";
-    assert_eq!(rt; notes.bytes(), line.as_slice());
-    Ok(())
+    let refused = put_note(alloc, &mut notes, None, &Status::BadGraph(error));
+    let are_whole = done == Noted::Whole && refused == Noted::Whole;
+    let line = str::from_utf8(notes.bytes())
+        .unwrap_or("?")
+        .replace(alloc, "\n", "|")?;
+    Ok(format!(in alloc;
+        "puts_the_line_and_for_done_nothing: whole: {are_whole} [{}]",
+        line.as_str()
+    )?)
 }

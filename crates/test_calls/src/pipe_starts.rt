@@ -6,9 +6,9 @@ use run_frame::FrameRun;
 use std::alloc::Global;
 use text_tasks::{Item, TextJob};
 
-/// The tokens of each serial pipe of the pipelines that the run's tasks open. How far the pipes come in a run with a fault
-/// depends on the order of its steps: of these it is seen only whether they start a prefix of this order, or, where it is
-/// empty, of what the first pipe starts.
+/// The tokens of each serial pipe of the pipelines that the run's tasks open. How far the pipes come in a run with a
+/// fault depends on the order of its steps: of these it is seen only whether they start a prefix of this order, or,
+/// where it is empty, of what the first pipe starts.
 pub fn shown_tokens(
     alloc: Global,
     run: &FrameRun<TextJob>,

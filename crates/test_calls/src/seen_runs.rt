@@ -19,8 +19,8 @@ pub enum Sight<'s> {
     Tokens(&'s str),
 }
 
-/// How many entries a run's journal has, what else is to be seen of it, and whether it isn't complete, or a run inside it
-/// isn't.
+/// How many entries a run's journal has, what else is to be seen of it, and whether it isn't complete, or a run inside
+/// it isn't.
 pub fn shown_run(
     alloc: Global,
     run: &FrameRun<TextJob>,

@@ -1,13 +1,12 @@
 // Which spans the watchers of a run are told, and in which order.
-use crate::calls::outcome_of;
+use crate::calls::{Called, end_of_call, plain_inputs};
 use crate::run_spans::spans_in_order;
+use flow_run::CallResult;
 use journal_rules::Span;
 use outside_io::NoMemory;
 use span_profile::{SpanList, Watch};
 use std::alloc::Global;
-use std::process::Abort;
 use std::sync::Wait;
-use std::test::Fail;
 use std::thread::Threads;
 
 // The graph of examples/log-join, which reads `t`, `u` and `v`.
@@ -32,60 +31,50 @@ const LOG_JOIN: &str = r#"{"tasks":[
 const TEXTS: &str =
     "10 error disk|11 ok boot|12 error net| / 12 error net|13 ok login| / 10 alice|12 bob|13 carol|";
 
-#[test]
-fn log_join_tells_each_span_once(rt: HostRuntime) -> Result<(), Fail> {
-    check_told(&rt, rt.alloc(), "run g --workers 1", 1)?;
-    check_told(&rt, rt.alloc(), "run g --workers 4", 4)
-}
-
-// The watchers of a run by so many workers are together told each of its spans once, and one alone is told them in
-// order.
-fn check_told<R: Threads + Wait + Abort + Sync>(
+/// What is seen of the watchers of a run by so many workers: they are together told each of its spans once, each
+/// watcher in the order of their ends.
+pub fn log_join_tells_each_span_once<R: Threads + Wait + Sync>(
     rt: &R,
     alloc: Global,
     words: &str,
     workers: u32,
-) -> Result<(), Fail> {
-    let watchers = span_lists(alloc, workers)?;
-    let outcome = outcome_of(rt, alloc, LOG_JOIN, words, TEXTS, watchers)?;
-    let [run] = outcome.runs.as_slice() else {
-        panic!(rt; "{words}: {} runs", outcome.runs.len());
-    };
-    let spans = spans_in_order(alloc, run)?;
-    assert_eq!(rt; spans.len(), 15);
-    let told = all_told(rt, alloc, outcome.watchers.as_slice())?;
-    assert!(rt;
-        has_each_once(told.as_slice(), spans.as_slice()),
-        "{words}: {told:?}"
-    );
-    if workers == 1 {
-        assert_eq!(rt; told.as_slice(), spans.as_slice());
+) -> Result<String, NoMemory> {
+    let mut lists: Vec<Box<dyn Watch + Send>> = Vec::new(alloc);
+    for _place in 0..workers {
+        lists.push(Box::new(alloc, SpanList::new(alloc))?)?;
     }
-    Ok(())
+    let inputs = plain_inputs(alloc, LOG_JOIN, words, TEXTS)?;
+    let Called {
+        outcome,
+        out: _out,
+        notes: _notes,
+    } = end_of_call(rt, alloc, inputs, lists);
+    let seen = shown_told(alloc, &outcome);
+    let _code = outcome.into_code();
+    seen
 }
 
-// So many watchers that keep what they are told.
-fn span_lists(alloc: Global, count: u32) -> Result<Vec<Box<dyn Watch + Send>>, NoMemory> {
-    let mut watchers: Vec<Box<dyn Watch + Send>> = Vec::new(alloc);
-    for _place in 0..count {
-        watchers.push(Box::new(alloc, SpanList::new(alloc))?)?;
+// How many runs were kept, how many spans these have, and whether the watchers were together told each once, each
+// watcher its own in the order of their ends, and one that is alone all in order.
+fn shown_told(alloc: Global, outcome: &CallResult) -> Result<String, NoMemory> {
+    let mut spans = Vec::new(alloc);
+    for run in &outcome.runs {
+        spans.extend_from_slice(spans_in_order(alloc, run)?.as_slice())?;
     }
-    Ok(watchers)
-}
-
-// What these watchers were told, one watcher after the other. Each was told those of a run in the order of their ends.
-fn all_told(
-    rt: &impl Abort,
-    alloc: Global,
-    watchers: &[Box<dyn Watch + Send>],
-) -> Result<Vec<Span>, NoMemory> {
     let mut all = Vec::new(alloc);
-    for watcher in watchers {
+    let mut rising = true;
+    for watcher in &outcome.watchers {
         let told = told_to(alloc, watcher)?;
-        assert!(rt; are_rising(told.as_slice()), "{told:?}");
+        rising = rising && are_rising(told.as_slice());
         all.extend_from_slice(told.as_slice())?;
     }
-    Ok(all)
+    let in_order = outcome.watchers.len() > 1 || all.as_slice() == spans.as_slice();
+    Ok(format!(in alloc;
+        "log_join_tells_each_span_once: {} run, {} spans, each told once: {}, rising: {rising}, in order: {in_order}",
+        outcome.runs.len(),
+        spans.len(),
+        has_each_once(all.as_slice(), spans.as_slice())
+    )?)
 }
 
 // What a watcher was told.

@@ -12,13 +12,12 @@ use std::alloc::Global;
 use std::sync::Arc;
 use std::sync::atomic::AtomicU64;
 use std::sync::atomic::Ordering::SeqCst;
-use std::test::Fail;
 
 // How far apart the counts are with which the watchers of a call begin: each of them is told fewer spans.
 const APART: u64 = 1_000_000;
 
-/// The watchers of a call: how many there are, how many workers are asked for, and which of all spans, counted from 0 as
-/// they are told, is refused.
+/// The watchers of a call: how many there are, how many workers are asked for, and which of all spans, counted from 0
+/// as they are told, is refused.
 #[derive(Clone, Copy)]
 pub struct Handed {
     pub watchers: u64,
@@ -26,18 +25,39 @@ pub struct Handed {
     pub refused: u64,
 }
 
-// What the watchers of a call share: how many spans they were told, also the one that is refused, and which that is.
+/// What the watchers of a call share: how many spans they were told, also the one that is refused, and which that is.
 #[derive(Drop)]
-struct Shared {
+pub struct Shared {
     spans: AtomicU64,
     refused: u64,
 }
 
-// A watcher that counts on from a number, by which it is known.
+impl Shared {
+    /// What the watchers of a call share before it.
+    pub fn of(alloc: Global, handed: Handed) -> Result<Arc<Shared>, NoMemory> {
+        let shared = Shared {
+            spans: AtomicU64::new(0),
+            refused: handed.refused,
+        };
+        Ok(Arc::new(alloc, shared)?)
+    }
+}
+
+/// A watcher that counts on from a number, by which it is known.
 #[derive(Drop)]
-struct KnownCount {
+pub struct KnownCount {
     count: u64,
     shared: Arc<Shared>,
+}
+
+impl KnownCount {
+    /// The watcher at a place.
+    pub fn at(place: u64, shared: &Arc<Shared>) -> Result<KnownCount, NoMemory> {
+        Ok(KnownCount {
+            count: first_count(place),
+            shared: Arc::try_clone(shared)?,
+        })
+    }
 }
 
 impl Watch for KnownCount {
@@ -67,26 +87,6 @@ impl Watch for KnownCount {
 // The count with which the watcher at a place begins.
 fn first_count(place: u64) -> u64 {
     place.saturating_mul(APART)
-}
-
-/// The watchers of a call.
-pub fn watchers_of(alloc: Global, handed: Handed) -> Result<Vec<Box<dyn Watch + Send>>, NoMemory> {
-    let shared = Arc::new(
-        alloc,
-        Shared {
-            spans: AtomicU64::new(0),
-            refused: handed.refused,
-        },
-    )?;
-    let mut watchers: Vec<Box<dyn Watch + Send>> = Vec::new(alloc);
-    for place in 0..handed.watchers {
-        let watcher = KnownCount {
-            count: first_count(place),
-            shared: Arc::try_clone(&shared)?,
-        };
-        watchers.push(Box::new(alloc, watcher)?)?;
-    }
-    Ok(watchers)
 }
 
 /// What is seen of the watchers that a call hands back: nothing, unless they are out of their order, or not told just
@@ -144,24 +144,37 @@ const SPAN: Span = Span {
     end: 1,
 };
 
-// Watchers out of their order are seen, and what they were told: the rows of calls would tell.
-#[test]
-fn exchanged_watchers_are_seen(rt: HostRuntime) -> Result<(), Fail> {
+/// Watchers out of their order are seen, and what they were told: the rows of calls would tell. Two watchers are told a
+/// span each and then change places.
+pub fn exchanged_watchers_are_seen(alloc: Global) -> Result<String, NoMemory> {
     let handed = Handed {
         watchers: 2,
         workers: 2,
         refused: 2,
     };
-    let mut watchers = watchers_of(rt.alloc(), handed)?;
-    for watcher in watchers.as_mut_slice() {
+    let shared = Shared::of(alloc, handed)?;
+    let mut watchers: Vec<Box<dyn Watch + Send>> = Vec::new(alloc);
+    for place in 0..handed.watchers {
+        let mut watcher = KnownCount::at(place, &shared)?;
         watcher.span(SPAN)?;
+        watchers.push(Box::new(alloc, watcher)?)?;
     }
-    assert!(rt; are_in_order(watchers.as_slice(), 2));
-    assert!(rt; !are_in_order(watchers.as_slice(), 3));
-    for (first, told) in [(0, 2), (1, 1), (2, 0)] {
-        assert_eq!(rt; told_from(watchers.as_slice(), first), told);
-    }
+    let mut seen = String::from_str(alloc, "exchanged_watchers_are_seen: ")?;
+    seen.push_str(shown_order(alloc, watchers.as_slice())?.as_str())?;
     watchers.as_mut_slice().reverse();
-    assert!(rt; !are_in_order(watchers.as_slice(), 2));
-    Ok(())
+    seen.push_str("; exchanged, ")?;
+    seen.push_str(shown_order(alloc, watchers.as_slice())?.as_str())?;
+    Ok(seen)
+}
+
+// Whether these are two watchers in order, or three, and what those from each place on were told.
+fn shown_order(alloc: Global, watchers: &[Box<dyn Watch + Send>]) -> Result<String, NoMemory> {
+    Ok(format!(in alloc;
+        "two in order: {}, three: {}, told {} {} {}",
+        are_in_order(watchers, 2),
+        are_in_order(watchers, 3),
+        told_from(watchers, 0),
+        told_from(watchers, 1),
+        told_from(watchers, 2)
+    )?)
 }
