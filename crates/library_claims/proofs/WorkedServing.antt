@@ -105,7 +105,7 @@ module _ (r : TableId) (three whole short one second two all : Snapshot (Vec Des
   empty = (subst NoneWaits (sym has_all) none_waits, (λ is. one_waits (subst NoneWaits has_two is)))
 
 -- What the workers ran, where a caller asked for no round of the one graph that a desk has.
-module _ {J V X : Type 0} (meaning : Meaning J V) (told : X → ℕ) (job : J) (watcher other : X) (differ : watcher ≢ other) where
+module _ {J V X : Type 0} (meaning : Meaning J V) (told : X → ℕ) (job : J) (run : FrameRun J V) (watcher other : X) (differ : watcher ≢ other) where
   ran_one : HasRunRounds meaning told (job ∷ []) history (watcher ∷ []) (watcher ∷ []) 0
   ran_one = record {
     ask = none;
@@ -113,7 +113,7 @@ module _ {J V X : Type 0} (meaning : Meaning J V) (told : X → ℕ) (job : J) (
     job = job;
     of_graph = refl;
     runs = [];
-    rounds = no_rounds meaning job;
+    rounds = no_rounds meaning job run;
     watched = λ there. refl;
   }
 
