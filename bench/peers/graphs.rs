@@ -1,8 +1,8 @@
-// An unverified peer of `flow run`, with Rust's std alone: `graphs keeps|shares FILE` reads a graph file, runs it by one
-// thread, and prints the report. `keeps` keeps all values and a journal of starts and ends to the end, as `flow` does;
-// `shares` frees each value with the last task that needs it. Both hand texts on without a copy. It knows the operations
-// `read`, `keep`, `count` and `pass`, and tasks with at most one predecessor. It takes a file as it should be, and doesn't
-// look for what `flow` refuses. It is built by `rustc -O`.
+// An unverified peer of `flow run`, with Rust's std alone: `graphs keeps|shares FILE` reads a graph file, runs it by
+// one thread, and prints the report. `keeps` keeps all values and a journal of starts and ends to the end, as `flow`
+// does; `shares` frees each value with the last task that needs it. Both hand texts on without a copy. It knows the
+// operations `read`, `keep`, `count` and `pass`, and tasks with at most one predecessor. It takes a file as it should
+// be, and doesn't look for what `flow` refuses. It is built by `rustc -O`.
 use std::borrow::Cow;
 use std::collections::{HashMap, VecDeque};
 use std::io::Write;
