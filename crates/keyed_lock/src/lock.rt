@@ -45,14 +45,13 @@ pub struct LockPass<T: Keyed> {
 /// A value that is out of its lock, with the pass to put it back. Who drops it leaves the lock without a value,
 /// and whoever takes that lock then waits for ever.
 #[derive(Drop)]
-pub struct Held<T: Keyed + Drop> {
+pub struct Held<T: Keyed> {
     pub value: T,
     pub pass: LockPass<T>,
 }
 
 impl<T: Keyed + Drop> KeyedLock<T> {
-    ghost use Rattle.keyed_lock.specs.Locks.{made_with, IsLockPass};
-    ghost use Rattle.keyed_lock.specs.inside.Rule.{HasValue, TakesIfFree};
+    ghost use Rattle.keyed_lock.specs.Locks.{made_with};
 
     /// A lock with this value, which comes back if an allocation fails.
     pub fn new(alloc: Global, value: T) -> Result<KeyedLock<T>, Back<T>>
@@ -72,6 +71,11 @@ impl<T: Keyed + Drop> KeyedLock<T> {
             }),
         }
     }
+}
+
+impl<T: Keyed> KeyedLock<T> {
+    ghost use Rattle.keyed_lock.specs.Locks.{made_with, IsLockPass};
+    ghost use Rattle.keyed_lock.specs.inside.Rule.{HasValue, TakesIfFree};
 
     /// Takes the value out, as soon as it is there. The value has the lock's key. It may wait.
     pub fn take<R: Wait>(&self, rt: &R) -> Held<T>
@@ -106,7 +110,8 @@ impl<T: Keyed + Drop> KeyedLock<T> {
         let shared = &self.table.shared;
         let Held { value, pass } = held;
         let LockPass { mut seat } = pass;
-        let _ = shared.exchange(&mut seat, SLOT, Some(value));
+        let before = shared.exchange(&mut seat, SLOT, Some(value));
+        let None = before else { unreachable!() };
         if shared.swap::<Gives>(&mut seat, WORD, FREE) == AWAITED {
             shared.wake_one(WORD);
         }
