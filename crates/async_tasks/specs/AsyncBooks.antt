@@ -3,7 +3,6 @@ use Rattle.std.specs.Prelude.{◌≡◌, ℕ, ◌+◌, ◌<◌, List, [], ◌∷
 use Rattle.atomic_table.specs.Seated.{TableId}
 use Rattle.ready_deques.specs.Lists.{OwnerState, IsOwnerOf}
 use Rattle.ready_deques.specs.declared.ready.Ready.{Ready}
-use Rattle.ready_deques.specs.declared.tagged.Tagged.{Ghosts}
 use Rattle.async_tasks.specs.declared.seat.AsyncStep.{AsyncStep}
 use Rattle.async_tasks.specs.declared.seat.AsyncStep.TheVariants.{Ran, Empty}
 use Rattle.async_tasks.specs.Starts.{EndRecord, IsAfter}
@@ -19,7 +18,7 @@ abbrev pub async_book_state : TableId → ℕ → TableId → AsyncBookState
 async_book_state register callers counts = record { register = register; callers = callers; counts = counts }
 
 -- the table of a list's count word
-abbrev pub counts_of : {T : Type 0} {G : Ghosts T} → Ready T G → TableId
+abbrev pub counts_of : {T : Type 0} → Ready T → TableId
 counts_of ready = ready.counter.table.shared.table_id
 
 -- a pass of this book, of one of its callers
@@ -50,7 +49,7 @@ pub record IsSeatOf (book : AsyncBookState) (seat : SeatState) : Type 0 where
   pub last : IfSome seat.last (λ (end : EndRecord). end.register ≡ book.register)
 
 -- a seat has an owner of this list, and ran no task
-abbrev pub IsNewSeatOf : {T : Type 0} {G : Ghosts T} → Ready T G → SeatState → Type 0
+abbrev pub IsNewSeatOf : {T : Type 0} → Ready T → SeatState → Type 0
 IsNewSeatOf ready seat = IsOwnerOf ready seat.owner × (seat.last ≡ None)
 
 -- the seat was given the end of this task, which the book recorded after the end that the seat had

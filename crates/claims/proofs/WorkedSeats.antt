@@ -7,7 +7,6 @@ use Rattle.keyed_lock.specs.declared.lock.LockPass.{LockPass}
 use Rattle.keyed_lock.specs.Locks.{made_with, IsLockPass}
 use Rattle.tickets.specs.Books.{book_state, ticket_state}
 use Rattle.ready_deques.specs.declared.ready.Ready.{Ready}
-use Rattle.ready_deques.specs.declared.tagged.Tagged.{Ghosts}
 use Rattle.ready_deques.specs.Limits.{max_workers}
 use Rattle.ready_deques.specs.Lists.{tag_of, owner_state, IsOwnerOf}
 
@@ -58,7 +57,7 @@ greatest_workers : max_workers ≡ 16
 greatest_workers = refl
 
 -- An owner of a list has its tag and counts with its word, however often it found the word 0.
-module _ {T : Type 0} {G : Ghosts T} (ready : Ready T G) where
+module _ {T : Type 0} (ready : Ready T) where
   owner_of_its_list : (count : ℕ) → IsOwnerOf ready (owner_state (tag_of ready) ready.counter.table.shared.table_id count)
   owner_of_its_list count = (refl, refl)
 

@@ -9,7 +9,6 @@ use Rattle.std.specs.declared.snapshot.Snapshot.{Snapshot}
 use Rattle.atomic_table.specs.Seated.{TableId}
 use Rattle.tickets.specs.Books.{ticket_state}
 use Rattle.ready_deques.specs.declared.ready.Ready.{Ready}
-use Rattle.ready_deques.specs.declared.tagged.Tagged.{Ghosts}
 use Rattle.ready_deques.specs.Lists.{OwnerState, IsOwnerOf}
 use Rattle.async_tasks.specs.declared.history.AddRow.{AddRow}
 use Rattle.async_tasks.specs.declared.history.TaskEvent.TheVariants.{Started, Ended}
@@ -329,9 +328,9 @@ module _ (answers : ℕ → List ℕ → ℕ → Type 0) (work a : Arc ℕ Globa
   done_with_another_pass r seen_none none h = let e = h.kept_all 0 (pass_state 0 (Some (ticket_state r 3 (Pass 0 seen_none)))) refl ∙ ap (kept_of 0) none in absurd (cc)
 
 -- the table of the count word of a list
-counts_of_a_list : {G : Ghosts ℕ} (ready : Ready ℕ G) (r : TableId) → ready.counter.table.shared.table_id ≡ r → counts_of ready ≡ r
+counts_of_a_list : (ready : Ready ℕ) (r : TableId) → ready.counter.table.shared.table_id ≡ r → counts_of ready ≡ r
 counts_of_a_list ready r same = same
 
 -- a new seat has an owner of the list, and ran nothing
-new_seats : {G : Ghosts ℕ} (ready : Ready ℕ G) (owner : OwnerState) (last : EndRecord) → IsOwnerOf ready owner → IsNewSeatOf ready (seat_state owner None) × ¬ IsNewSeatOf ready (seat_state owner (Some last))
+new_seats : (ready : Ready ℕ) (owner : OwnerState) (last : EndRecord) → IsOwnerOf ready owner → IsNewSeatOf ready (seat_state owner None) × ¬ IsNewSeatOf ready (seat_state owner (Some last))
 new_seats ready owner last own = ((own, refl), (λ h. let e = h.1 in absurd (cc)))

@@ -88,12 +88,23 @@ pub type ItemStealer<T> = Stealer<Queued<T>, Global, Option<About>, HoldsQueued>
 /// What a stealer's caller knows.
 pub type StealerPass<T> = Pass<Queued<T>, Option<About>>;
 
-/// An empty deque without a name, with room for so many items at first.
+/// An empty deque without a name, with room for so many items at first, whose owner takes the newest.
 #[tactic(auto, using(crate::proofs::Holding::begins))]
 pub fn unnamed<T: Tagged + Drop>(alloc: Global, room: usize) -> Result<ItemWorker<T>, NoMemory>
     ensures { IfOk result (λ worker. (worker_flavor worker ≡ 1) × (worker_view worker ≡ None)) }
 {
     Ok(Worker::lifo_as(alloc, room)?)
+}
+
+/// So one whose items are all taken by stealers, who find it empty only if it is.
+#[tactic(auto, using(crate::proofs::Holding::begins))]
+pub fn unnamed_queue<T: Tagged + Drop>(
+    alloc: Global,
+    room: usize,
+) -> Result<ItemWorker<T>, NoMemory>
+    ensures { IfOk result (λ worker. worker_view worker ≡ None) }
+{
+    Ok(Worker::fifo_as(alloc, room)?)
 }
 
 pub fn name<T: Tagged + Drop, N: Naming>(worker: &mut ItemWorker<T>)
@@ -104,7 +115,7 @@ pub fn name<T: Tagged + Drop, N: Naming>(worker: &mut ItemWorker<T>)
     let _ = worker.another::<GivesName<N>>();
 }
 
-pub fn stealer_pass<T: Tagged + Drop>(worker: &mut ItemWorker<T>) -> StealerPass<T>
+pub fn stealer_pass<T: Tagged>(worker: &mut ItemWorker<T>) -> StealerPass<T>
     requires { IsKnown T.tag (worker_view worker.old) [] }
     ensures same { (worker_view worker.new ≡ worker_view worker.old)
         × (worker_flavor worker.new ≡ worker_flavor worker.old) }
@@ -114,10 +125,7 @@ pub fn stealer_pass<T: Tagged + Drop>(worker: &mut ItemWorker<T>) -> StealerPass
     worker.another::<Copies>()
 }
 
-pub fn push<T: Tagged + Drop>(
-    worker: &mut ItemWorker<T>,
-    queued: Queued<T>,
-) -> Result<(), Queued<T>>
+pub fn push<T: Tagged>(worker: &mut ItemWorker<T>, queued: Queued<T>) -> Result<(), Queued<T>>
     requires { IsKnown T.tag (worker_view worker.old) (queued ∷ []) }
     ensures same { SameDeque worker.old worker.new }
     ensures refused { IfErr result (λ back. back ≡ queued) }
@@ -126,7 +134,7 @@ pub fn push<T: Tagged + Drop>(
 }
 
 /// The newest item.
-pub fn pop<T: Tagged + Drop>(worker: &mut ItemWorker<T>) -> Option<Queued<T>>
+pub fn pop<T: Tagged>(worker: &mut ItemWorker<T>) -> Option<Queued<T>>
     ensures same { SameDeque worker.old worker.new }
     ensures taken { IfSome result (λ queued. IsKnown T.tag (worker_view worker.old) (queued ∷ [])) }
 {
@@ -134,10 +142,7 @@ pub fn pop<T: Tagged + Drop>(worker: &mut ItemWorker<T>) -> Option<Queued<T>>
 }
 
 /// The oldest item.
-pub fn steal<T: Tagged + Drop>(
-    stealer: &ItemStealer<T>,
-    pass: &mut StealerPass<T>,
-) -> Steal<Queued<T>>
+pub fn steal<T: Tagged>(stealer: &ItemStealer<T>, pass: &mut StealerPass<T>) -> Steal<Queued<T>>
     requires { IsPassOf (stealer_deque stealer.now) pass.old }
     ensures same { IsPassOf (stealer_deque stealer.now) pass.new × (view pass.new ≡ view pass.old) }
     ensures taken { MatchSteal result (Unit {0}) (Unit {0})

@@ -7,11 +7,19 @@
 //!
 //! # The deques
 //!
-//! A list has a deque of `crossbeam_deque` for each owner, with a stealer for each other owner, and one injector for
-//! items from outside. All of them follow one rule (`HoldsQueued`): each item has the list's tag, numbers that say
-//! where it belongs, and carries a seat that holds one count of the list's count word. A deque is bound to its list
-//! by the first step on it, which gives its passes the list's name: its tag and the table of its count word. Whoever
-//! pushes shows that the item fits the name, and whoever takes one learns that it does.
+//! A list has a deque of `crossbeam_deque` for each owner, with a stealer for each other owner, and one more for items
+//! from outside, whose own end lies under a lock and from which all owners steal. All of them follow one rule
+//! (`HoldsQueued`): each item has the list's tag, numbers that say where it belongs, and carries a seat that holds one
+//! count of the list's count word. A deque is bound to its list by the first step on it, which gives its passes the
+//! list's name: its tag and the table of its count word. Whoever pushes shows that the item fits the name, and whoever
+//! takes one learns that it does.
+//!
+//! # Each item once
+//!
+//! The calls that push and take are generic in an item's type, of which they don't know that it is `Drop` or `Clone`.
+//! Types are linear, so the body of such a call can't drop an item, forget it or double it: an item that comes in goes
+//! into a deque of the list or back to the caller, and an item that leaves a deque goes into one again or to the
+//! caller. The type is `Drop` only where a list is made, or is dropped with the items that are still queued.
 //!
 //! # The count word and the spare counts
 //!
@@ -21,8 +29,8 @@
 //!
 //! - A push first gets a seat with one count, and then queues the item with that seat. The count is one that the owner
 //!   has to spare, and the count word stays as it is; an owner with none to spare raises the count word by one. If
-//!   neither the deque nor the injector takes the item, the caller has the item again, and the count is spare. A push
-//!   from outside always raises the word, and lowers it again if it is refused.
+//!   neither the owner's deque nor the one for items from outside takes the item, the caller has the item again, and the
+//!   count is spare. A push from outside always raises the word, and lowers it again if it is refused.
 //! - An owner that takes an item, of its own or of another, adds the count of the item's seat to its own spare counts
 //!   and leaves the count word alone. So owners that push and take their own items write no word in common.
 //! - A `take` that finds no item first gathers the spare counts of all owners, from each word into its own seat, and
@@ -56,7 +64,6 @@
 mod about;
 mod count;
 mod deque;
-mod injector;
 mod owner;
 mod ready;
 mod shares;

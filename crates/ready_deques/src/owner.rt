@@ -2,19 +2,16 @@
 ghost use Rattle.std.specs.Prelude.{◌≡◌, ◌∷◌, ◌+◌, [], All, Some, IfOk, IfErr, IfSome, MatchOption, IsTrue, IsFalse};
 ghost use Rattle.std.specs.Arc.{arc_value};
 ghost use Rattle.crossbeam_deque.specs.Handles.{view, worker_view};
-ghost use Rattle.crossbeam_deque.specs.Injected.{injector_view, IsInjectorPassOf};
 ghost use Rattle.ready_deques.specs.Lists.{IsOwnerOf};
 ghost use Rattle.ready_deques.specs.inside.ListNames.{IsKnown, about};
 ghost use Rattle.ready_deques.specs.inside.ListParts.{list_name_of};
 
 use crate::count::Account;
+use crate::deque;
 use crate::deque::{ItemWorker, Queued};
-use crate::injector::ItemPass;
 use crate::ready::Ready;
 use crate::stealer::{OwnedStealer, steal_any, stealer_of};
 use crate::tagged::Tagged;
-use crate::{deque, injector};
-use crossbeam_deque::Steal;
 use crossbeam_utils::sync::Parker;
 use outside_io::{Back, NoMemory};
 use std::alloc::Global;
@@ -23,12 +20,11 @@ use std::sync::{Arc, Wait};
 use std::thread;
 
 /// The owner of one deque of a list.
-pub struct Owner<T: Tagged + Drop> {
+pub struct Owner<T: Tagged> {
     ready: Arc<Ready<T>>,
     worker: ItemWorker<T>,
-    // Stealers of the other owners' deques, the next owner's first.
+    // Stealers of the deque for items from outside, and then of the other owners' deques, the next owner's first.
     stealers: Vec<OwnedStealer<T>>,
-    pass: ItemPass<T>,
     account: Account,
     parker: Parker,
     // Its bit in the set of sleepers.
@@ -42,20 +38,18 @@ impl<T: Tagged + Drop> Drop for Owner<T> {
             ready,
             worker,
             stealers,
-            pass,
             account,
             parker,
             bit: _,
         } = self;
-        drop((ready, worker, stealers, pass, account, parker));
+        drop((ready, worker, stealers, account, parker));
     }
 }
 
-impl<T: Tagged + Drop> Model for Owner<T> {
+impl<T: Tagged> Model for Owner<T> {
     ghost use Rattle.std.specs.Prelude.{◌≡◌, All, Some};
     ghost use Rattle.std.specs.Arc.{arc_value};
     ghost use Rattle.crossbeam_deque.specs.Handles.{view as pass_view, worker_view};
-    ghost use Rattle.crossbeam_deque.specs.Injected.{injector_view, IsInjectorPassOf};
     ghost use Rattle.ready_deques.specs.Lists.{OwnerState, owner_state};
     ghost use Rattle.ready_deques.specs.inside.ListParts.{list_name_of};
 
@@ -66,67 +60,54 @@ impl<T: Tagged + Drop> Model for Owner<T> {
 
     ghost invariant = { λ o. (worker_view o.worker ≡ Some (list_name_of (arc_value o.ready)))
         × All (λ stealer. pass_view stealer.pass ≡ Some (list_name_of (arc_value o.ready)))
-        o.stealers.items × IsInjectorPassOf (arc_value o.ready).injector o.pass
-        × (injector_view o.pass ≡ Some (list_name_of (arc_value o.ready)))
+        o.stealers.items
         × (o.account.counts ≡ (arc_value o.ready).counter.table.shared.table_id) };
 }
 
-// Queues an item in the owner's deque, or else in the injector.
-fn put<T: Tagged + Drop, R: Wait>(
+// Queues an item in the owner's deque, or else in the one for items from outside.
+fn put<T: Tagged, R: Wait>(
     ready: &Ready<T>,
     rt: &R,
     worker: &mut ItemWorker<T>,
-    pass: &mut ItemPass<T>,
     queued: Queued<T>,
 ) -> Result<(), Queued<T>>
     requires worker { worker_view worker.old ≡ Some (list_name_of ready.now) }
-    requires pass { IsInjectorPassOf ready.now.injector pass.old
-        × (injector_view pass.old ≡ Some (list_name_of ready.now)) }
     requires item { IsKnown T.tag (Some (list_name_of ready.now)) (queued ∷ []) }
     ensures worker { worker_view worker.new ≡ worker_view worker.old }
-    ensures pass { IsInjectorPassOf ready.now.injector pass.new
-        × (injector_view pass.new ≡ injector_view pass.old) }
     ensures refused { IfErr result (λ back. back ≡ queued) }
 {
     match deque::push(worker, queued) {
         Ok(()) => Ok(()),
-        Err(queued) => injector::push(&ready.injector, rt, pass, queued),
+        Err(queued) => ready.put(rt, queued),
     }
 }
 
-// The owner's newest item, else the injector's oldest, else another owner's oldest.
-fn find<T: Tagged + Drop, R: Wait>(
+// The owner's newest item, else the oldest from outside, else another owner's oldest.
+fn find<T: Tagged>(
     ready: &Ready<T>,
-    rt: &R,
     worker: &mut ItemWorker<T>,
-    pass: &mut ItemPass<T>,
     stealers: &mut Vec<OwnedStealer<T>>,
 ) -> Option<Queued<T>>
     requires worker { worker_view worker.old ≡ Some (list_name_of ready.now) }
-    requires pass { IsInjectorPassOf ready.now.injector pass.old
-        × (injector_view pass.old ≡ Some (list_name_of ready.now)) }
     requires stealers { All (λ stealer. view stealer.pass ≡ Some (list_name_of ready.now))
         stealers.old.items }
     ensures worker { worker_view worker.new ≡ worker_view worker.old }
-    ensures pass { IsInjectorPassOf ready.now.injector pass.new
-        × (injector_view pass.new ≡ injector_view pass.old) }
     ensures stealers { All (λ stealer. view stealer.pass ≡ Some (list_name_of ready.now))
         stealers.new.items }
     ensures taken { IfSome result
         (λ queued. IsKnown T.tag (Some (list_name_of ready.now)) (queued ∷ [])) }
 {
-    if let Some(queued) = deque::pop(worker) {
-        return Some(queued);
+    match deque::pop(worker) {
+        Some(queued) => Some(queued),
+        None => steal_any(ready, stealers),
     }
-    if let Steal::Success(queued) = injector::steal(&ready.injector, rt, pass) {
-        return Some(queued);
-    }
-    steal_any(ready, stealers)
 }
 
-impl<T: Tagged + Drop> Owner<T> {
-    /// Queues an item in this owner's deque, or in the injector if the deque can't grow, and wakes one owner that
-    /// sleeps. It may wait. After an `Err`, which comes only if an allocation fails, the item is not queued.
+// `T` isn't known to be `Drop`, so no item is dropped here: what comes in is queued or given back, and what is taken
+// goes to the caller.
+impl<T: Tagged> Owner<T> {
+    /// Queues an item in this owner's deque, or in the one for items from outside if its own can't grow, and wakes one
+    /// owner that sleeps. It may wait. After an `Err`, which comes only if an allocation fails, the item is not queued.
     pub fn push<R: Wait>(&mut self, rt: &R, item: T) -> Result<(), Back<T>>
         requires { T.tag item ≡ self.old.tag }
         ensures same { self.new ≡ self.old }
@@ -134,7 +115,7 @@ impl<T: Tagged + Drop> Owner<T> {
     {
         let seat = self.ready.counter.count(rt, &mut self.account);
         let queued = Queued { item, seat };
-        match put(&self.ready, rt, &mut self.worker, &mut self.pass, queued) {
+        match put(&self.ready, rt, &mut self.worker, queued) {
             Ok(()) => {
                 self.ready.sleepers.wake_one();
                 Ok(())
@@ -156,7 +137,7 @@ impl<T: Tagged + Drop> Owner<T> {
         }
     }
 
-    /// The newest item of this owner's deque, else the injector's oldest, else the oldest of another owner's deque,
+    /// The newest item of this owner's deque, else the oldest from outside, else the oldest of another owner's deque,
     /// beginning with the next owner. It may wait. `None` only if a load of the count word in this call found 0, so
     /// that no item was queued then. It waits for no owner that is busy with an item that it took.
     pub fn take<R: Wait>(&mut self, rt: &R) -> Option<T>
@@ -166,8 +147,9 @@ impl<T: Tagged + Drop> Owner<T> {
             (λ _. self.new.zeros ≡ self.old.zeros) }
     {
         for _ in rt.forever() {
-            if let Some(item) = self.find_item(rt) {
-                return Some(item);
+            match self.find_item() {
+                Some(item) => return Some(item),
+                None => {}
             }
             if self.finds_none() {
                 return None;
@@ -190,17 +172,11 @@ impl<T: Tagged + Drop> Owner<T> {
         sleepers.leave(self.bit);
     }
 
-    fn find_item<R: Wait>(&mut self, rt: &R) -> Option<T>
+    fn find_item(&mut self) -> Option<T>
         ensures same { self.new ≡ self.old }
         ensures tag { IfSome result (λ item. T.tag item ≡ self.old.tag) }
     {
-        match find(
-            &self.ready,
-            rt,
-            &mut self.worker,
-            &mut self.pass,
-            &mut self.stealers,
-        ) {
+        match find(&self.ready, &mut self.worker, &mut self.stealers) {
             Some(queued) => Some(self.ready.keep_count(&self.account, queued)),
             None => None,
         }
@@ -215,33 +191,35 @@ impl<T: Tagged + Drop> Owner<T> {
         self.ready.counter.gather(&mut self.account);
         self.ready.counter.finds_zero(&mut self.account)
     }
+}
 
-    // An owner that can't steal from anybody yet.
+impl<T: Tagged + Drop> Owner<T> {
+    // An owner that can't steal from another yet.
     pub(crate) fn of(
         alloc: Global,
         ready: &Arc<Ready<T>>,
         worker: ItemWorker<T>,
-        pass: ItemPass<T>,
+        outside: OwnedStealer<T>,
         account: Account,
         parker: Parker,
         bit: u64,
     ) -> Result<Owner<T>, NoMemory>
         requires worker { worker_view worker ≡ Some (list_name_of (arc_value ready.now)) }
-        requires pass { IsInjectorPassOf (arc_value ready.now).injector pass
-            × (injector_view pass ≡ Some (list_name_of (arc_value ready.now))) }
+        requires outside { view outside.pass ≡ Some (list_name_of (arc_value ready.now)) }
         requires account { account.counts ≡ (arc_value ready.now).counter.table.shared.table_id }
         ensures { IfOk result (IsOwnerOf (arc_value ready.now)) }
     {
         let ready = Arc::try_clone(ready)?;
-        Ok(Owner {
+        let mut owner = Owner {
             ready,
             worker,
             stealers: Vec::new(alloc),
-            pass,
             account,
             parker,
             bit,
-        })
+        };
+        owner.gain(outside)?;
+        Ok(owner)
     }
 
     // A stealer of this owner's deque.

@@ -1,13 +1,12 @@
 // What the owners of a list share, and the calls of those outside.
 ghost use Rattle.std.specs.Prelude.{◌≡◌, ◌∷◌, [], Some, None, IfErr};
 ghost use Rattle.keyed_lock.specs.Locks.{made_with};
-ghost use Rattle.crossbeam_deque.specs.Injected.{injector_view};
-ghost use Rattle.ready_deques.specs.inside.ListNames.{IsKnown, about, injector_of, pass_key};
+ghost use Rattle.crossbeam_deque.specs.Handles.{worker_view};
+ghost use Rattle.ready_deques.specs.inside.ListNames.{IsKnown, about};
 
 use crate::count::{Account, Counter};
-use crate::deque::Queued;
-use crate::injector;
-use crate::injector::{ItemInjector, ItemPass};
+use crate::deque;
+use crate::deque::{ItemWorker, Queued};
 use crate::sleepers::Sleepers;
 use crate::tagged::Tagged;
 use boxcar::tag::Tag;
@@ -17,34 +16,31 @@ use std::sync::Wait;
 use std::sync::atomic::AtomicBool;
 use std::sync::atomic::Ordering::SeqCst;
 
-/// A pass of the injector, for whoever injects.
+/// The end at which items from outside are queued.
 #[derive(Drop)]
-pub struct Spare<T: Tagged + Drop> {
-    pub pass: ItemPass<T>,
-    ghost idle: { (pass.me.hand ≡ None) × (pass.me.spare ≡ None) },
+pub struct Outside<T: Tagged> {
+    pub worker: ItemWorker<T>,
 }
 
-impl<T: Tagged + Drop> Keyed for Spare<T> {
-    ghost use Rattle.std.specs.declared.alloc.Global.{Global};
-    ghost use Rattle.crossbeam_deque.specs.Injected.{injector_view};
-    ghost use Rattle.ready_deques.specs.inside.ListNames.{injector_of, PassKey, pass_key};
+impl<T: Tagged> Keyed for Outside<T> {
+    ghost use Rattle.std.specs.Prelude.{Option};
+    ghost use Rattle.crossbeam_deque.specs.Handles.{worker_view};
+    ghost use Rattle.ready_deques.specs.declared.about.About.{About};
 
-    ghost Key = { PassKey Global };
+    ghost Key = { Option About };
 
-    ghost key = { λ spare. pass_key (injector_of spare.pass) (injector_view spare.pass) };
+    ghost key = { λ outside. worker_view outside.worker };
 }
 
 /// A list of ready items.
-pub struct Ready<T: Tagged + Drop> {
+pub struct Ready<T: Tagged> {
     pub(crate) tag: Tag,
     pub(crate) counter: Counter,
-    pub(crate) injector: ItemInjector<T>,
-    pub(crate) spare: KeyedLock<Spare<T>>,
+    pub(crate) outside: KeyedLock<Outside<T>>,
     pub(crate) sleepers: Sleepers,
     pub(crate) closed: AtomicBool,
-    ghost spares: { pass_key (injector_of (made_with spare).pass)
-        (injector_view (made_with spare).pass)
-        ≡ pass_key injector.queue (Some (about tag.numbers counter.table.shared.table_id)) },
+    ghost named: { worker_view (made_with outside).worker
+        ≡ Some (about tag.numbers counter.table.shared.table_id) },
 }
 
 // Written out, so that it is proved here alone and not in each crate above.
@@ -53,16 +49,16 @@ impl<T: Tagged + Drop> Drop for Ready<T> {
         let Ready {
             tag,
             counter,
-            injector,
-            spare,
+            outside,
             sleepers,
             closed,
         } = self;
-        drop((tag, counter, injector, spare, sleepers, closed));
+        drop((tag, counter, outside, sleepers, closed));
     }
 }
 
-impl<T: Tagged + Drop> Ready<T> {
+// `T` isn't known to be `Drop`, so no item is dropped here: what comes in is queued or given back.
+impl<T: Tagged> Ready<T> {
     ghost use Rattle.ready_deques.specs.Lists.{tag_of};
     ghost use Rattle.ready_deques.specs.inside.ListParts.{list_name_of};
 
@@ -122,18 +118,16 @@ impl<T: Tagged + Drop> Ready<T> {
         item
     }
 
-    // Puts an item into the injector, with the spare pass.
-    fn put<R: Wait>(&self, rt: &R, queued: Queued<T>) -> Result<(), Queued<T>>
+    // Queues an item in the deque for those from outside.
+    pub(crate) fn put<R: Wait>(&self, rt: &R, queued: Queued<T>) -> Result<(), Queued<T>>
         requires { IsKnown T.tag (Some (list_name_of self.now)) (queued ∷ []) }
         ensures { IfErr result (λ back. back ≡ queued) }
     {
-        let Held { value, pass } = self.spare.take(rt);
-        let Spare {
-            pass: mut item_pass,
-        } = value;
-        let pushed = injector::push(&self.injector, rt, &mut item_pass, queued);
-        self.spare.put(Held {
-            value: Spare { pass: item_pass },
+        let Held { value, pass } = self.outside.take(rt);
+        let Outside { mut worker } = value;
+        let pushed = deque::push(&mut worker, queued);
+        self.outside.put(Held {
+            value: Outside { worker },
             pass,
         });
         pushed

@@ -1,21 +1,20 @@
 // A new list with its owners.
-ghost use Rattle.std.specs.Prelude.{◌≡◌, ◌+◌, ◌<◌, ◌≤◌, All, Some, None, IfOk, length};
+ghost use Rattle.std.specs.Prelude.{◌≡◌, ◌+◌, ◌<◌, ◌≤◌, [], All, Some, None, IfOk, length};
 ghost use Rattle.std.specs.Arc.{arc_value};
-ghost use Rattle.crossbeam_deque.specs.Handles.{worker_view};
-ghost use Rattle.crossbeam_deque.specs.Injected.{injector_view, IsInjectorPassOf};
+ghost use Rattle.crossbeam_deque.specs.Handles.{view, worker_view};
 ghost use Rattle.ready_deques.specs.Limits.{max_workers};
 ghost use Rattle.ready_deques.specs.Lists.{IsOwnerOf, tag_of};
-ghost use Rattle.ready_deques.specs.inside.ListNames.{about};
+ghost use Rattle.ready_deques.specs.inside.ListNames.{IsKnown, about};
 ghost use Rattle.ready_deques.specs.inside.ListParts.{list_name_of};
 
 use crate::count::{Account, Counter};
+use crate::deque;
 use crate::deque::{ItemWorker, Naming};
-use crate::injector::{ItemInjector, ItemPass};
 use crate::owner::Owner;
-use crate::ready::{Ready, Spare};
+use crate::ready::{Outside, Ready};
 use crate::sleepers::Sleepers;
+use crate::stealer::{OwnedStealer, stealer_of};
 use crate::tagged::{ByTag, Tagged};
-use crate::{deque, injector};
 use boxcar::tag::Tag;
 use crossbeam_utils::sync::{Parker, Unparker};
 use keyed_lock::KeyedLock;
@@ -30,7 +29,7 @@ const ROOM: usize = 64;
 
 /// A list and its owners.
 #[derive(Drop)]
-pub struct Shares<T: Tagged + Drop> {
+pub struct Shares<T: Tagged> {
     pub ready: Arc<Ready<T>>,
     pub owners: Vec<Owner<T>>,
 }
@@ -47,8 +46,10 @@ impl<T: Tagged + Drop> Ready<T> {
         let tag = Tag::of::<K, ByTag>(of);
         let (counter, account) = Counter::new(alloc)?;
         let (parkers, wakers) = new_parkers(alloc, workers)?;
-        let (ready, pass) = shared(alloc, tag, counter, Sleepers::new(wakers))?;
-        let mut owners = new_owners(alloc, &ready, pass, account, parkers)?;
+        let mut outside = named_queue(alloc, &tag, &counter)?;
+        let stealers = outside_stealers(alloc, &mut outside, workers)?;
+        let ready = shared(alloc, tag, counter, outside, Sleepers::new(wakers))?;
+        let mut owners = new_owners(alloc, &ready, stealers, account, parkers)?;
         pair_all(&ready, &mut owners)?;
         Ok(Shares { ready, owners })
     }
@@ -96,94 +97,86 @@ fn named_worker<T: Tagged + Drop>(
     Ok(worker)
 }
 
-fn name_injector<T: Tagged + Drop, N: Naming>(
-    tag: &Tag,
-    counter: &Counter,
-    injector: &ItemInjector<T>,
-    pass: &mut ItemPass<T>,
-)
-    requires unnamed { IsInjectorPassOf injector.now pass.old × (injector_view pass.old ≡ None) }
-    requires name { N.name ≡ about tag.now.numbers counter.now.table.shared.table_id }
-    ensures { IsInjectorPassOf injector.now pass.new
-        × (injector_view pass.new
-        ≡ Some (about tag.now.numbers counter.now.table.shared.table_id)) }
-{
-    let _ = tag;
-    let _ = counter;
-    injector::name::<T, N>(injector, pass);
-}
-
-// The empty injector of the list with this tag and this count word.
-fn named_injector<T: Tagged + Drop>(
+// So the one for items from outside.
+fn named_queue<T: Tagged + Drop>(
     alloc: Global,
     tag: &Tag,
     counter: &Counter,
-) -> Result<(ItemInjector<T>, ItemPass<T>), NoMemory>
-    ensures { IfOk result (λ made. IsInjectorPassOf made.0 made.1
-        × (injector_view made.1 ≡ Some (about tag.now.numbers counter.now.table.shared.table_id))) }
+) -> Result<ItemWorker<T>, NoMemory>
+    ensures { IfOk result (λ worker. worker_view worker
+        ≡ Some (about tag.now.numbers counter.now.table.shared.table_id)) }
 {
-    let (injector, mut pass) = injector::unnamed(alloc)?;
-    name_injector::<T, Brand>(tag, counter, &injector, &mut pass);
-    Ok((injector, pass))
+    let mut worker = deque::unnamed_queue(alloc, ROOM)?;
+    name_worker::<T, Brand>(tag, counter, &mut worker);
+    Ok(worker)
 }
 
-// What the owners share, with a pass of its injector.
+// A stealer of the deque for items from outside, for each worker.
+fn outside_stealers<T: Tagged + Drop>(
+    alloc: Global,
+    outside: &mut ItemWorker<T>,
+    workers: u32,
+) -> Result<Vec<OwnedStealer<T>>, NoMemory>
+    requires { IsKnown T.tag (worker_view outside.old) [] }
+    ensures outside { worker_view outside.new ≡ worker_view outside.old }
+    ensures named { IfOk result (λ stealers. All (λ stealer. view stealer.pass
+        ≡ worker_view outside.old) stealers.items) }
+    ensures count { IfOk result (λ stealers. length stealers.items ≡ workers) }
+{
+    let mut stealers = Vec::new(alloc);
+    for _ in 0..workers {
+        stealers.push(stealer_of(outside)?)?;
+    }
+    Ok(stealers)
+}
+
+// What the owners share.
 fn shared<T: Tagged + Drop>(
     alloc: Global,
     tag: Tag,
     counter: Counter,
+    outside: ItemWorker<T>,
     sleepers: Sleepers,
-) -> Result<(Arc<Ready<T>>, ItemPass<T>), NoMemory>
-    ensures tag { IfOk result (λ made. tag_of (arc_value made.0) ≡ tag.numbers) }
+) -> Result<Arc<Ready<T>>, NoMemory>
+    requires { worker_view outside ≡ Some (about tag.numbers counter.table.shared.table_id) }
+    ensures tag { IfOk result (λ ready. tag_of (arc_value ready) ≡ tag.numbers) }
     ensures counts { IfOk result
-        (λ made. (arc_value made.0).counter.table.shared.table_id ≡ counter.table.shared.table_id) }
-    ensures pass { IfOk result
-        (λ made. IsInjectorPassOf (arc_value made.0).injector made.1
-        × (injector_view made.1 ≡ Some (list_name_of (arc_value made.0)))) }
+        (λ ready. (arc_value ready).counter.table.shared.table_id ≡ counter.table.shared.table_id) }
 {
-    let (injector, mut pass) = named_injector(alloc, &tag, &counter)?;
-    let spare = Spare {
-        pass: injector::another(&injector, &mut pass),
-    };
     let ready = Ready {
         tag,
         counter,
-        injector,
-        spare: KeyedLock::new(alloc, spare)?,
+        outside: KeyedLock::new(alloc, Outside { worker: outside })?,
         sleepers,
         closed: AtomicBool::new(false),
     };
-    Ok((Arc::new(alloc, ready)?, pass))
+    Ok(Arc::new(alloc, ready)?)
 }
 
 fn new_owner<T: Tagged + Drop>(
     alloc: Global,
     ready: &Arc<Ready<T>>,
-    pass: &mut ItemPass<T>,
+    outside: OwnedStealer<T>,
     account: &mut Account,
     parker: Parker,
     number: usize,
 ) -> Result<Owner<T>, NoMemory>
     requires number { number < max_workers }
     requires account { account.old.counts ≡ (arc_value ready.now).counter.table.shared.table_id }
-    requires pass { IsInjectorPassOf (arc_value ready.now).injector pass.old
-        × (injector_view pass.old ≡ Some (list_name_of (arc_value ready.now))) }
-    ensures pass { IsInjectorPassOf (arc_value ready.now).injector pass.new
-        × (injector_view pass.new ≡ injector_view pass.old) }
+    requires outside { view outside.pass ≡ Some (list_name_of (arc_value ready.now)) }
     ensures account { account.new ≡ account.old }
     ensures owner { IfOk result (IsOwnerOf (arc_value ready.now)) }
 {
     let own_account = ready.counter.open(account, number);
-    let own_pass = injector::another(&ready.injector, pass);
     let worker = named_worker(alloc, &ready.tag, &ready.counter)?;
     let bit = 1u64 << number;
-    Owner::of(alloc, ready, worker, own_pass, own_account, parker, bit)
+    Owner::of(alloc, ready, worker, outside, own_account, parker, bit)
 }
 
 fn add_owner<T: Tagged + Drop>(
     alloc: Global,
     ready: &Arc<Ready<T>>,
-    pass: &mut ItemPass<T>,
+    outside: OwnedStealer<T>,
     account: &mut Account,
     owners: &mut Vec<Owner<T>>,
     parker: Parker,
@@ -191,31 +184,49 @@ fn add_owner<T: Tagged + Drop>(
 ) -> Result<(), NoMemory>
     requires number { number < max_workers }
     requires account { account.old.counts ≡ (arc_value ready.now).counter.table.shared.table_id }
-    requires pass { IsInjectorPassOf (arc_value ready.now).injector pass.old
-        × (injector_view pass.old ≡ Some (list_name_of (arc_value ready.now))) }
+    requires outside { view outside.pass ≡ Some (list_name_of (arc_value ready.now)) }
     requires owners { All (IsOwnerOf (arc_value ready.now)) owners.old.items }
-    ensures pass { IsInjectorPassOf (arc_value ready.now).injector pass.new
-        × (injector_view pass.new ≡ injector_view pass.old) }
     ensures account { account.new ≡ account.old }
     ensures owners { All (IsOwnerOf (arc_value ready.now)) owners.new.items }
     ensures count { IfOk result (λ _. length owners.new.items ≡ length owners.old.items + 1) }
 {
-    let owner = new_owner(alloc, ready, pass, account, parker, number)?;
+    let owner = new_owner(alloc, ready, outside, account, parker, number)?;
     owners.push(owner)?;
     Ok(())
+}
+
+// The last of these stealers.
+fn next_outside<T: Tagged + Drop>(
+    ready: &Ready<T>,
+    stealers: &mut Vec<OwnedStealer<T>>,
+) -> OwnedStealer<T>
+    requires named { All (λ stealer. view stealer.pass ≡ Some (list_name_of ready.now))
+        stealers.old.items }
+    requires count { 0 < length stealers.old.items }
+    ensures named { All (λ stealer. view stealer.pass ≡ Some (list_name_of ready.now))
+        stealers.new.items }
+    ensures count { length stealers.old.items ≡ length stealers.new.items + 1 }
+    ensures next { view result.pass ≡ Some (list_name_of ready.now) }
+{
+    let _ = ready;
+    let Some(stealer) = stealers.pop() else {
+        unreachable!()
+    };
+    stealer
 }
 
 // An owner for each parker. Each has the number of its waker's place.
 fn new_owners<T: Tagged + Drop>(
     alloc: Global,
     ready: &Arc<Ready<T>>,
-    mut pass: ItemPass<T>,
+    mut stealers: Vec<OwnedStealer<T>>,
     mut account: Account,
     mut parkers: Vec<Parker>,
 ) -> Result<Vec<Owner<T>>, NoMemory>
     requires account { account.counts ≡ (arc_value ready.now).counter.table.shared.table_id }
-    requires pass { IsInjectorPassOf (arc_value ready.now).injector pass
-        × (injector_view pass ≡ Some (list_name_of (arc_value ready.now))) }
+    requires stealers { All (λ stealer. view stealer.pass
+        ≡ Some (list_name_of (arc_value ready.now))) stealers.items }
+    requires one_each { length stealers.items ≡ length parkers.items }
     requires count { length parkers.items ≤ max_workers }
     ensures owners { IfOk result (λ owners. All (IsOwnerOf (arc_value ready.now)) owners.items) }
     ensures count { IfOk result (λ owners. length owners.items ≡ length parkers.items) }
@@ -223,10 +234,11 @@ fn new_owners<T: Tagged + Drop>(
     let mut owners = Vec::new(alloc);
     while let Some(parker) = parkers.pop() {
         let number = parkers.len();
+        let outside = next_outside(ready, &mut stealers);
         add_owner(
             alloc,
             ready,
-            &mut pass,
+            outside,
             &mut account,
             &mut owners,
             parker,

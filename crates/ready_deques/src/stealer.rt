@@ -13,7 +13,7 @@ use outside_io::NoMemory;
 
 /// A stealer with its pass.
 #[derive(Drop)]
-pub struct OwnedStealer<T: Tagged + Drop> {
+pub struct OwnedStealer<T: Tagged> {
     pub stealer: ItemStealer<T>,
     pub pass: StealerPass<T>,
     ghost fits: { IsPassOf (stealer_deque stealer) pass },
@@ -31,7 +31,7 @@ pub fn stealer_of<T: Tagged + Drop>(worker: &mut ItemWorker<T>) -> Result<OwnedS
     Ok(OwnedStealer { stealer, pass })
 }
 
-impl<T: Tagged + Drop> OwnedStealer<T> {
+impl<T: Tagged> OwnedStealer<T> {
     /// The oldest item there, if it could be taken.
     pub fn steal(&mut self) -> Option<Queued<T>>
         ensures same { view self.new.pass ≡ view self.old.pass }
@@ -46,7 +46,7 @@ impl<T: Tagged + Drop> OwnedStealer<T> {
 }
 
 /// The oldest item of the first deque that gives one.
-pub fn steal_any<T: Tagged + Drop>(
+pub fn steal_any<T: Tagged>(
     ready: &Ready<T>,
     stealers: &mut Vec<OwnedStealer<T>>,
 ) -> Option<Queued<T>>
@@ -58,8 +58,9 @@ pub fn steal_any<T: Tagged + Drop>(
         (λ queued. IsKnown T.tag (Some (list_name_of ready.now)) (queued ∷ [])) }
 {
     for i in 0..stealers.len() {
-        if let Some(queued) = stealers[i].steal() {
-            return Some(queued);
+        match stealers[i].steal() {
+            Some(queued) => return Some(queued),
+            None => {}
         }
     }
     None

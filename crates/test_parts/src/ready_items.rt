@@ -55,7 +55,7 @@ struct OwnerHand {
     taken: Vec<u32>,
 }
 
-// Queues 250 numbers, those of the last hand through the injector.
+// Queues 250 numbers, those of the last hand from outside.
 fn queue_all<R: Wait>(rt: &R, ready: &Ready<Number>, hand: &mut OwnerHand)
     requires list { tag_of ready.now ≡ [] }
     requires owner { hand.old.owner.tag ≡ [] }

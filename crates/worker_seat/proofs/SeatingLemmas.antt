@@ -7,7 +7,6 @@ use Rattle.std.specs.List.{remove}
 use Rattle.atomic_table.specs.Seated.{TableId}
 use Rattle.ready_deques.specs.Lists.{OwnerState, IsOwnerOf, tag_of}
 use Rattle.ready_deques.specs.declared.ready.Ready.{Ready}
-use Rattle.ready_deques.specs.declared.tagged.Tagged.{Ghosts}
 use Rattle.run_frame.specs.Meaning.{Meaning}
 use Rattle.table_frames.specs.Steps.{BeginsFrame, IsRootRun}
 use Rattle.table_frames.specs.declared.closed_run.ClosedRun.{ClosedRun}
@@ -57,7 +56,7 @@ abbrev pub named : List ℕ → TableId → ListName
 named begun counts = record { begun = begun; counts = counts }
 
 -- an owner of a list is of the list of its name
-pub same_list : {T : Type 0} {G : Ghosts T} (ready : Ready T G) (owner : OwnerState) → IsOwnerOf ready owner → owner_list owner ≡ list_name ready
+pub same_list : {T : Type 0} (ready : Ready T) (owner : OwnerState) → IsOwnerOf ready owner → owner_list owner ≡ list_name ready
 same_list ready owner is = ap (λ (begun : List ℕ). named begun owner.counts) is.0 ∙ ap (named (tag_of ready)) is.1
 
 module _ {J V X : Type 0} where

@@ -1,12 +1,10 @@
--- The rule of the deques and of the injector of one list: a name that all their passes have, and what the items hold.
+-- The rule of the deques of one list: a name that all their passes have, and what the items hold.
 use Rattle.std.specs.Prelude.{◌≡◌, ℕ, List, [], ◌∷◌, ◌⊎◌, Option, Some, None}
 use mathlib.Core.Option.{some}
 use lib.ListN.{get_elem?}
 use Rattle.atomic_table.specs.Seated.{TableId}
 use Rattle.crossbeam_deque.specs.Handles.{worker_view, worker_flavor, worker_deque}
-use Rattle.crossbeam_deque.specs.Injected.{InjectorPass}
 use Rattle.crossbeam_deque.specs.declared.handles.Worker.{Worker}
-use Rattle.crossbeam_queue.specs.SegTies.{SegId}
 use Rattle.ready_deques.specs.inside.Counts.{counting}
 use Rattle.ready_deques.specs.declared.about.About.{About}
 use Rattle.ready_deques.specs.declared.deque.Queued.{Queued}
@@ -17,18 +15,6 @@ about tag counts = record { marker = record {}; tag = tag; counts = counts }
 -- of no list
 abbrev pub blank : About
 blank = about [] record { words = 0; slots = 0; views_name = 0; atom = 0; block = 0; offset = 0; slot_names = [] }
-
--- which injector a pass is of
-abbrev pub injector_of : {T V A : Type 0} → InjectorPass T V A → SegId A
-injector_of pass = record { web = pass.web; heap = pass.heap }
-
--- a pass of an injector, as the lock that keeps it knows it
-pub record PassKey (A : Type 0) : Type 0 where
-  pub injector : SegId A
-  pub name : Option About
-
-abbrev pub pass_key : {A : Type 0} → SegId A → Option About → PassKey A
-pass_key i n = record { injector = i; name = n }
 
 -- a worker's deque, flavor and view stay as they are
 abbrev pub SameDeque : {T A V P : Type 0} → Worker T A V P → Worker T A V P → Type 0

@@ -5,7 +5,6 @@ use Rattle.std.specs.declared.snapshot.Snapshot.{Snapshot}
 use Rattle.std.specs.Arc.{arc_value}
 use Rattle.ready_deques.specs.Lists.{OwnerState, tag_of}
 use Rattle.ready_deques.specs.declared.ready.Ready.{Ready}
-use Rattle.ready_deques.specs.declared.tagged.Tagged.{Ghosts}
 use Rattle.span_book.specs.SpanBooks.{TellerState}
 use Rattle.worker_seat.specs.Seats.{ListName, RunBook}
 use Rattle.worker_seat.specs.inside.Runs.{RunView}
@@ -73,7 +72,7 @@ abbrev pub IsSameOwner : OwnerState → OwnerState → Type 0
 IsSameOwner old new = (new.tag ≡ old.tag) × (new.counts ≡ old.counts)
 
 -- the name of a list, and of an owner's
-abbrev pub list_name : {T : Type 0} {G : Ghosts T} → Ready T G → ListName
+abbrev pub list_name : {T : Type 0} → Ready T → ListName
 list_name ready = record { begun = tag_of ready; counts = ready.counter.table.shared.table_id }
 
 abbrev pub owner_list : OwnerState → ListName

@@ -1,6 +1,6 @@
 use Rattle.std.proofs.Common.{◌≡◌, ◌+◌, All, Some, length}
 use Rattle.std.specs.Arc.{arc_value}
-use Rattle.crossbeam_deque.specs.Injected.{injector_view, IsInjectorPassOf}
+use Rattle.crossbeam_deque.specs.Handles.{view}
 use Rattle.ready_deques.specs.Lists.{IsOwnerOf}
 use Rattle.ready_deques.specs.inside.ListParts.{list_name_of}
 use Rattle.ready_deques.proofs.shares.new_owners.Given as goal
@@ -8,8 +8,8 @@ use Rattle.ready_deques.proofs.shares.new_owners.Given as goal
 abbrev pub invariant-loop-parker : goal.invariant-loop-parker
 invariant-loop-parker g l =
     All (IsOwnerOf (arc_value l.ready)) l.owners.items
-    × IsInjectorPassOf (arc_value l.ready).injector l.pass
-    × (injector_view l.pass ≡ Some (list_name_of (arc_value l.ready)))
+    × All (λ stealer. view stealer.pass ≡ Some (list_name_of (arc_value l.ready))) l.stealers.items
+    × (length l.stealers.items ≡ length l.parkers.items)
     × (l.account.counts ≡ (arc_value l.ready).counter.table.shared.table_id)
     × (length l.owners.items + length l.parkers.items ≡ length l.initial.parkers.items)
 
