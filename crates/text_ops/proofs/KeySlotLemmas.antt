@@ -4,12 +4,13 @@ use Rattle.std.specs.Prelude.{All}
 use Rattle.std.specs.Option.{option_map}
 use Rattle.std.proofs.lemmas.Option.{slice_get_within, slice_get-get_or, get_or_from_slice_get}
 use Rattle.text_ops.specs.declared.sort_key.Piece.TheVariants.{Key}
-use Rattle.text_ops.specs.declared.key_slots.Found.TheVariants.{Row}
+use Rattle.text_ops.specs.declared.slots.Probed.TheVariants.{Row}
 use Rattle.text_ops.specs.Lines.{lines_of, IsNormal}
 use Rattle.text_ops.specs.MatchKeys.{behind_key, first_with}
 use Rattle.text_ops.specs.inside.SortKeys.{SortKeyRow, keyed_piece, sort_keys_of}
 use Rattle.text_ops.specs.inside.Matching.{behind_sort_key}
-use Rattle.text_ops.specs.inside.KeySlots.{look_up, first_slot, hash_of, AreFilled, LeadToFirst}
+use Rattle.text_ops.specs.inside.Slots.{first_slot}
+use Rattle.text_ops.specs.inside.KeySlots.{look_up, AreFilled, LeadToFirst}
 use Rattle.text_ops.proofs.KeepLemmas.{lines_plain}
 use Rattle.text_ops.proofs.LineSteps.{text_is}
 use Rattle.text_ops.proofs.FoundKeys.{NotBefore, starts, find_first, find_none}
@@ -34,7 +35,7 @@ module _ (text key : List ℕ) (slots : List ℕ) (is : IsNormal text) (filled :
 
   pub first_found : (j : ℕ) (d : SortKeyRow) → look_up text rows slots key ≡ Row j → option_map behind_key (first_with key (lines_of text)) ≡ Some (behind_sort_key text (get_or rows j d))
   first_found j d found =
-      let has = row_is text rows key slots 16 (first_slot (hash_of key) (length slots)) j found in
+      let has = row_is text rows key slots 16 (first_slot key (length slots)) j found in
       let sort_key = has.0 in
       let low = slice_get_within rows j sort_key has.1 in
       let read : get_or rows j d ≡ sort_key = get_or_from_slice_get rows j sort_key d has.1 in
@@ -68,5 +69,5 @@ module _ (text key : List ℕ) (rows : List SortKeyRow) (slots : List ℕ) (is :
   -- a row that is found is one of them
   pub row_inside : (j : ℕ) → look_up text rows slots key ≡ Row j → j < length rows
   row_inside j found =
-      let has = row_is text rows key slots 16 (first_slot (hash_of key) (length slots)) j found in
+      let has = row_is text rows key slots 16 (first_slot key (length slots)) j found in
       slice_get_within rows j has.0 has.1

@@ -7,10 +7,11 @@ use Rattle.std.proofs.lemmas.Bool.{cases_lt, cond-true, cond-false}
 use Rattle.std.proofs.lemmas.Option.{slice_get_within, slice_get_read, slice_get_past}
 use Rattle.std.proofs.lemmas.List.{length-set}
 use Rattle.std.proofs.lemmas.Slice.Eq.{bytes_eq-Decides}
-use Rattle.text_ops.specs.declared.key_slots.Found.{Found}
-use Rattle.text_ops.specs.declared.key_slots.Found.TheVariants.{Row, Free, Crowded}
+use Rattle.text_ops.specs.declared.slots.Probed.{Probed}
+use Rattle.text_ops.specs.declared.slots.Probed.TheVariants.{Row, Free, Crowded}
 use Rattle.text_ops.specs.inside.SortKeys.{SortKeyRow, keyed_piece}
-use Rattle.text_ops.specs.inside.KeySlots.{at_row, at_slot, found, first_slot, hash_of, look_up, AreFilled}
+use Rattle.text_ops.specs.inside.Slots.{first_slot}
+use Rattle.text_ops.specs.inside.KeySlots.{at_row, at_slot, found, look_up, AreFilled}
 
 -- what is read after a change
 read_other : {X : Type 0} (xs : List X) (i j : ℕ) (x : X) → j ≢ i → slice_get (set xs i x) j ≡ slice_get xs j
@@ -33,34 +34,34 @@ by_place a b same apart =
     (λ high. ⊎_elim (λ past. apart (λ is. omega (arith, is, past))) (λ level. same (omega arith)) (cases_lt b a))
     (cases_lt a b)
 
-abbrev pub place_of : Found → ℕ
+abbrev pub place_of : Probed → ℕ
 place_of (Row k) = k
 place_of (Free at) = at
 place_of Crowded = 0
 
 module _ (text : List ℕ) (rows : List SortKeyRow) (key : List ℕ) where
   -- a row that is found behind a slot, or a free slot there
-  row_bool : (b : Bool) (row j : ℕ) (later more : Found) → (later ≡ Row j → more ≡ Row j) → cond b (Row row) later ≡ Row j → cond b (Row row) more ≡ Row j
+  row_bool : (b : Bool) (row j : ℕ) (later more : Probed) → (later ≡ Row j → more ≡ Row j) → cond b (Row row) later ≡ Row j → cond b (Row row) more ≡ Row j
   row_bool true row j later more on is = is
   row_bool false row j later more on is = on is
 
-  row_row : (r : Option SortKeyRow) (at row j : ℕ) (later more : Found) → (later ≡ Row j → more ≡ Row j) → at_row text key at row r later ≡ Row j → at_row text key at row r more ≡ Row j
+  row_row : (r : Option SortKeyRow) (at row j : ℕ) (later more : Probed) → (later ≡ Row j → more ≡ Row j) → at_row text key at row r later ≡ Row j → at_row text key at row r more ≡ Row j
   row_row None at row j later more on is = is
   row_row (Some sort_key) at row j later more on is = row_bool (bytes_eq (keyed_piece text sort_key) key) row j later more on is
 
-  row_on : (o : Option ℕ) (at j : ℕ) (later more : Found) → (later ≡ Row j → more ≡ Row j) → at_slot text rows key at o later ≡ Row j → at_slot text rows key at o more ≡ Row j
+  row_on : (o : Option ℕ) (at j : ℕ) (later more : Probed) → (later ≡ Row j → more ≡ Row j) → at_slot text rows key at o later ≡ Row j → at_slot text rows key at o more ≡ Row j
   row_on None at j later more on is = is
   row_on (Some row) at j later more on is = row_row (slice_get rows row) at row j later more on is
 
-  free_bool : (b : Bool) (row s j : ℕ) (later more : Found) → (later ≡ Free s → more ≡ Row j) → cond b (Row row) later ≡ Free s → cond b (Row row) more ≡ Row j
+  free_bool : (b : Bool) (row s j : ℕ) (later more : Probed) → (later ≡ Free s → more ≡ Row j) → cond b (Row row) later ≡ Free s → cond b (Row row) more ≡ Row j
   free_bool true row s j later more on is = cc
   free_bool false row s j later more on is = on is
 
-  free_row : (r : Option SortKeyRow) (at row s j : ℕ) (later more : Found) → at ≢ s → (later ≡ Free s → more ≡ Row j) → at_row text key at row r later ≡ Free s → at_row text key at row r more ≡ Row j
+  free_row : (r : Option SortKeyRow) (at row s j : ℕ) (later more : Probed) → at ≢ s → (later ≡ Free s → more ≡ Row j) → at_row text key at row r later ≡ Free s → at_row text key at row r more ≡ Row j
   free_row None at row s j later more apart on is = absurd (apart (ap place_of is))
   free_row (Some sort_key) at row s j later more apart on is = free_bool (bytes_eq (keyed_piece text sort_key) key) row s j later more on is
 
-  free_on : (o : Option ℕ) (at s j : ℕ) (later more : Found) → at ≢ s → (later ≡ Free s → more ≡ Row j) → at_slot text rows key at o later ≡ Free s → at_slot text rows key at o more ≡ Row j
+  free_on : (o : Option ℕ) (at s j : ℕ) (later more : Probed) → at ≢ s → (later ≡ Free s → more ≡ Row j) → at_slot text rows key at o later ≡ Free s → at_slot text rows key at o more ≡ Row j
   free_on None at s j later more apart on is = cc
   free_on (Some row) at s j later more apart on is = free_row (slice_get rows row) at row s j later more apart on is
 
@@ -106,7 +107,7 @@ module _ (text : List ℕ) (rows : List SortKeyRow) (key : List ℕ) where
 
   -- a free slot that is filled: what was found still is, and the key for which it is free is found there
   module _ (slots : List ℕ) (s old i : ℕ) (read : slice_get slots s ≡ Some old) (none : slice_get rows old ≡ None) where
-    abbrev later : ℕ → ℕ → Found
+    abbrev later : ℕ → ℕ → Probed
     later n at = found text rows slots key n (at + 1)
 
     is_free : (n at : ℕ) → at ≡ s → found text rows slots key (suc n) at ≡ Free at
@@ -158,19 +159,19 @@ module _ (text : List ℕ) (rows : List SortKeyRow) (slots : List ℕ) (i : ℕ)
   pub AreFilled-filled : (s : ℕ) → look_up text rows slots (keyed_piece text here) ≡ Free s → AreFilled text rows (set slots s i) (i + 1)
   AreFilled-filled s is =
       let key = keyed_piece text here in
-      let free = free_is text rows key slots 16 (first_slot (hash_of key) (length slots)) s is in
+      let free = free_is text rows key slots 16 (first_slot key (length slots)) s is in
       let long = length-set slots s i in
       AreFilled-same (set slots s i) i
       (λ q k h.
-      ap (λ n. found text rows (set slots s i) q 16 (first_slot (hash_of q) n)) long
-      ∙ still_found text rows q slots s free.0 i free.1 free.2 16 (first_slot (hash_of q) (length slots)) k h)
+      ap (λ n. found text rows (set slots s i) q 16 (first_slot q n)) long
+      ∙ still_found text rows q slots s free.0 i free.1 free.2 16 (first_slot q (length slots)) k h)
       (omega arith)
-      (ap (λ n. found text rows (set slots s i) key 16 (first_slot (hash_of key) n)) long
-      ∙ now_found text rows key slots s free.0 i free.1 free.2 here at_i refl 16 (first_slot (hash_of key) (length slots)) is)
+      (ap (λ n. found text rows (set slots s i) key 16 (first_slot key n)) long
+      ∙ now_found text rows key slots s free.0 i free.1 free.2 here at_i refl 16 (first_slot key (length slots)) is)
 
 pub free_within : (text : List ℕ) (rows : List SortKeyRow) (slots key : List ℕ) (s : ℕ) → look_up text rows slots key ≡ Free s → s < length slots
 free_within text rows slots key s is =
-    let free = free_is text rows key slots 16 (first_slot (hash_of key) (length slots)) s is in
+    let free = free_is text rows key slots 16 (first_slot key (length slots)) s is in
     slice_get_within slots s free.0 free.1
 
 -- One more look at a slot.
@@ -178,7 +179,7 @@ pub is_read : {X : Type 0} (xs : List X) (i : ℕ) (x : X) → i < length xs →
 is_read xs i x low is = slice_get_read xs (length xs) i x refl low (is x)
 
 module _ (text : List ℕ) (rows : List SortKeyRow) (slots key : List ℕ) (first probe : ℕ) (low : probe < 16) where
-  abbrev on : Found
+  abbrev on : Probed
   on = found text rows slots key (16 - (probe + 1)) (first + (probe + 1))
 
   look : (o : Option ℕ) → slice_get slots (first + probe) ≡ o → found text rows slots key (16 - probe) (first + probe) ≡ at_slot text rows key (first + probe) o on

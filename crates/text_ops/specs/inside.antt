@@ -5,6 +5,7 @@ pub mod Keeping
 pub mod SortKeys
 pub mod Sorting
 pub mod Matching
+pub mod Slots
 pub mod KeySlots
 pub mod Tallying
 pub mod Counting

@@ -6,23 +6,12 @@ ghost use Rattle.text_ops.specs.inside.Counting.{AreDifferentLines, AreRising, C
 use crate::counted_line::CountedLine;
 use crate::line_ends::line_ends;
 use crate::line_walk::Lines;
+use crate::slots::{PROBES, Probed, first_slot};
 use outside_io::NoMemory;
 use std::alloc::Global;
-use std::hash::{FoldHasher, Hasher};
 
 // At most so large a part of the lines may be different.
 const PART: usize = 8;
-
-// So many slots are looked at, from the one that a line's hash names.
-const PROBES: usize = 16;
-
-// What a search for a line finds.
-pub(crate) enum Found {
-    // The line's row.
-    Row(usize),
-    // No row. The line may be noted in this slot, if there is one.
-    Slot(usize),
-}
 
 /// The different lines of a text, in the order of their bytes, each with how often it occurs. `None`: perhaps more than
 /// an eighth of the lines are different.
@@ -58,19 +47,19 @@ fn count_line<'t>(
     ensures { OnOk result (CountsOneMore line.entry.now rows.old.items rows.new.items) }
 {
     match find(rows.as_slice(), slots, line) {
-        Found::Row(row) => {
+        Probed::Row(row) => {
             let count = rows[row].count.checked_add(1).ok_or(NoMemory)?;
             rows[row] = CountedLine { line, count };
+            return Ok(());
         }
-        Found::Slot(slot) => {
-            note(slots, slot, rows.len());
-            rows.push(CountedLine { line, count: 1 })?;
-        }
+        Probed::Free(slot) => note(slots, slot, rows.len()),
+        Probed::Crowded => {}
     }
+    rows.push(CountedLine { line, count: 1 })?;
     Ok(())
 }
 
-// Notes a row in a slot, if there is one.
+// Notes a row in a slot.
 fn note(slots: &mut [usize], slot: usize, row: usize) {
     if let Some(noted) = slots.get_mut(slot) {
         *noted = row;
@@ -78,30 +67,22 @@ fn note(slots: &mut [usize], slot: usize, row: usize) {
 }
 
 // Looks for a line by its hash.
-fn find(rows: &[CountedLine<'_>], slots: &[usize], line: &[u8]) -> Found
+fn find(rows: &[CountedLine<'_>], slots: &[usize], line: &[u8]) -> Probed
     ensures { IsFound rows.now line.now result }
 {
     let first = first_slot(line, slots.len());
-    for slot in first..first.saturating_add(PROBES) {
+    for slot in first..first + PROBES {
         let Some(row) = slots.get(slot) else {
-            return Found::Slot(slot);
+            return Probed::Crowded;
         };
         let Some(counted) = rows.get(*row) else {
-            return Found::Slot(slot);
+            return Probed::Free(slot);
         };
         if counted.line == line {
-            return Found::Row(*row);
+            return Probed::Row(*row);
         }
     }
-    Found::Slot(usize::MAX)
-}
-
-// The slot that a line's hash names, of so many.
-fn first_slot(line: &[u8], slots: usize) -> usize {
-    let mut hasher = FoldHasher::default();
-    hasher.write(line);
-    let hash = hasher.finish() >> 32;
-    (hash.wrapping_mul(slots as u64) >> 32) as usize
+    Probed::Crowded
 }
 
 // Whether each line is less than the next.

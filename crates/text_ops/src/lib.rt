@@ -28,6 +28,7 @@ mod numbers;
 mod order;
 mod part;
 mod repeats;
+mod slots;
 mod sort_key;
 mod sort_keys;
 mod tallies;

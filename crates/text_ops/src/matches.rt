@@ -11,10 +11,11 @@ ghost use Rattle.text_ops.specs.inside.KeySlots.{LeadToFirst};
 ghost use Rattle.text_ops.specs.inside.Matching.{IsFirstPlace, behind_sort_key, is_before};
 
 use crate::gathered::{ApplyError, Gathered};
-use crate::key_slots::{Found, filled_slots, look_up};
+use crate::key_slots::{filled_slots, look_up};
 use crate::line_walk::Lines;
+use crate::slots::Probed;
 use crate::sort_key::{Offset, Piece, SortKey};
-use crate::sort_keys::{keyed_piece, lead, match_key, sort_keys_of, sorted_keys};
+use crate::sort_keys::{keyed_piece, lead, match_key, order_keys, sort_keys_of};
 use crate::text::Text;
 use memchr::memchr;
 use std::alloc::Global;
@@ -42,12 +43,12 @@ fn match_by_sort_keys<O: Offset>(
     requires short { length right.now ≤ O.most }
     ensures { Makes (match_meaning left.now right.now) result }
 {
-    let sort_keys = sort_keys_of::<O>(alloc, right, Piece::Key)?;
-    let sort_keys = sort_keys.as_slice();
-    match filled_slots(alloc, right, sort_keys)? {
-        Some(slots) => match_by_slots(alloc, left, right, sort_keys, slots.as_slice()),
-        None => match_in_order::<O>(alloc, left, right),
+    let mut sort_keys = sort_keys_of::<O>(alloc, right, Piece::Key)?;
+    if let Some(slots) = filled_slots(alloc, right, sort_keys.as_slice())? {
+        return match_by_slots(alloc, left, right, sort_keys.as_slice(), slots.as_slice());
     }
+    order_keys(right, Piece::Key, &mut sort_keys);
+    match_in_order(alloc, left, right, sort_keys.as_slice())
 }
 
 // The same, where slots lead to the first line with a key.
@@ -84,21 +85,24 @@ fn behind_found<'t, O: Offset>(
     ensures { option_copied result
         ≡ option_map behind_key (first_with key.now (lines_of text.now)) }
 {
-    let Found::Row(row) = look_up(text, sort_keys, slots, key) else {
+    let Probed::Row(row) = look_up(text, sort_keys, slots, key) else {
         return None;
     };
     Some(behind(text, sort_keys.get(row)?))
 }
 
-// The same as `match_by_sort_keys`, by a search in the order of keys.
-fn match_in_order<O: Offset>(alloc: Global, left: &[u8], right: &[u8]) -> Result<Text, ApplyError>
+// The same as `match_by_slots`, by a search among sort keys in order.
+fn match_in_order<O: Offset>(
+    alloc: Global,
+    left: &[u8],
+    right: &[u8],
+    sort_keys: &[SortKey<O>],
+) -> Result<Text, ApplyError>
     requires left { IsNormal left.now }
     requires right { IsNormal right.now }
-    requires short { length right.now ≤ O.most }
+    requires sort_keys { AreSortedKeys KeyPiece right.now sort_keys.now }
     ensures { Makes (match_meaning left.now right.now) result }
 {
-    let sort_keys = sorted_keys::<O>(alloc, right, Piece::Key)?;
-    let sort_keys = sort_keys.as_slice();
     let mut made = Gathered::new(alloc);
     for line in Lines::new(left) {
         if let Some(rest) = behind_first(right, sort_keys, match_key(line)) {

@@ -1,5 +1,5 @@
 // The lines in order.
-ghost use Rattle.std.specs.Prelude.{◌≡◌, ◌++◌, ℕ, List, reverse, OnOk};
+ghost use Rattle.std.specs.Prelude.{◌≡◌, ◌++◌, ℕ, List, OnOk};
 ghost use Rattle.text_ops.specs.Lines.{ended};
 ghost use Rattle.text_ops.specs.TextMeaning.{sort_meaning};
 ghost use Rattle.text_ops.specs.Values.{Makes};
@@ -14,7 +14,7 @@ use outside_io::NoMemory;
 use std::alloc::Global;
 
 // The memory of so many sort keys is given back at a time.
-const RELEASED: usize = 65_536;
+const KEYS_AT_ONCE: usize = 65_536;
 
 /// The lines in the order of their bytes.
 pub fn sort(alloc: Global, text: &Text) -> Result<Text, ApplyError>
@@ -26,28 +26,22 @@ pub fn sort(alloc: Global, text: &Text) -> Result<Text, ApplyError>
         return Err(ApplyError::Long(len));
     }
     let mut sort_keys = sorted_keys::<u32>(alloc, bytes, Piece::Whole)?;
-    turn(&mut sort_keys);
+    // So that the first is taken off the end.
+    sort_keys.reverse();
     let mut made = Gathered::with_room(alloc, bytes.len())?;
     while let Some(sort_key) = sort_keys.pop() {
         add_keyed_line(&mut made, bytes, &sort_key)?;
-        release(&mut sort_keys);
+        give_back_memory(&mut sort_keys);
     }
     made.finish(alloc)
 }
 
-// Turns their order round, so that the first is taken off the end.
-fn turn<O: Offset>(sort_keys: &mut Vec<SortKey<O>>)
-    ensures { sort_keys.new.items ≡ reverse sort_keys.old.items }
-{
-    sort_keys.reverse();
-}
-
 // Now and then gives back the memory of sort keys that were taken off the end. So a text and its sort keys are not all
 // in memory beside all that is made of them: memory of a text with room for it isn't used before bytes are put there.
-fn release<O: Offset>(sort_keys: &mut Vec<SortKey<O>>)
+fn give_back_memory<O: Offset>(sort_keys: &mut Vec<SortKey<O>>)
     ensures { sort_keys.new.items ≡ sort_keys.old.items }
 {
-    if sort_keys.len() % RELEASED == 0 {
+    if sort_keys.len() % KEYS_AT_ONCE == 0 {
         sort_keys.shrink_to_fit();
     }
 }

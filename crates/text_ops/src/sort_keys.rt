@@ -129,7 +129,8 @@ pub(crate) fn sort_keys_of<O: Offset>(
     Ok(sort_keys)
 }
 
-fn order_keys<O: Offset>(text: &[u8], by: Piece, sort_keys: &mut Vec<SortKey<O>>)
+// Puts sort keys in the order of their pieces' bytes. Those of equal keys are in the order of the lines.
+pub(crate) fn order_keys<O: Offset>(text: &[u8], by: Piece, sort_keys: &mut Vec<SortKey<O>>)
     ensures permutation { IsPermutation sort_keys.old.items sort_keys.new.items }
     ensures sorted { IsSortedBy (λ a b. is_lt (sort_key_cmp by text.now a b)) sort_keys.new.items }
 {

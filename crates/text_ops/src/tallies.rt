@@ -61,7 +61,7 @@ fn tally_by_sort_keys<O: Offset>(alloc: Global, text: &[u8]) -> Result<Text, App
     made.finish(alloc)
 }
 
-// How many sort keys, from the first on, sort key what the first sort keys.
+// How many sort keys, from the first on, stand for the same line as the first.
 fn run_length<O: Offset>(text: &[u8], sort_keys: &[SortKey<O>]) -> usize
     requires { 0 < length sort_keys.now }
     ensures { result ≡ run_of (map (keyed_piece text.now) sort_keys.now) }

@@ -4,8 +4,8 @@ use Rattle.std.specs.List.{AllAdjacentBelow}
 use Rattle.std.specs.Ordering.{is_lt}
 use Rattle.std.specs.Str.{bytes_eq}
 use Rattle.text_ops.specs.declared.counted_line.CountedLine.{CountedLine}
-use Rattle.text_ops.specs.declared.counted_lines.Found.{Found}
-use Rattle.text_ops.specs.declared.counted_lines.Found.TheVariants.{Row, Slot}
+use Rattle.text_ops.specs.declared.slots.Probed.{Probed}
+use Rattle.text_ops.specs.declared.slots.Probed.TheVariants.{Row, Free, Crowded}
 use Rattle.text_ops.specs.Lines.{lines_of}
 use Rattle.text_ops.specs.LineOrder.{line_cmp}
 use Rattle.text_ops.specs.Repeats.{count_of}
@@ -29,9 +29,10 @@ pub record IsRowOf (rows : List CountedLine) (line : List ℕ) (k : ℕ) : Type 
   pub same : (d : CountedLine) → (slice_index_or rows k d).line.now ≡ line
 
 -- a row that was found is the line's
-abbrev pub IsFound : List CountedLine → List ℕ → Found → Type 0
+abbrev pub IsFound : List CountedLine → List ℕ → Probed → Type 0
 IsFound rows line (Row k) = IsRowOf rows line k
-IsFound rows line (Slot slot) = Unit {0}
+IsFound rows line (Free slot) = Unit {0}
+IsFound rows line Crowded = Unit {0}
 
 -- each line is less than the next
 abbrev pub AreRising : List CountedLine → Type 0

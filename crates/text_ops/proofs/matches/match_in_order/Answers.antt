@@ -11,8 +11,8 @@ loop-line-init g c =
     MatchSoFar-start c.args.left.now c.args.right.now c.args.left.now c.into_iter-line-iterator.result c.new-made.result
     refl (c.into_iter-line-iterator.ensures.into_iter_gives ∙ c.new-line-items.ensures) c.new-made.ensures
 
-pub loop-line-preserved-in-Continue-branch-2 : goal.loop-line-preserved-in-Continue-branch-2
-loop-line-preserved-in-Continue-branch-2 g c =
+pub loop-line-preserved-in-Continue-1 : goal.loop-line-preserved-in-Continue-1
+loop-line-preserved-in-Continue-1 g c =
     MatchSoFar-found c.args.left.now c.args.right.now c.args.right.now c.in-Some.line.now c.match_key.result.now c.loop-line.line-iterator c.next.new.self c.loop-line.made
     c.loop-line.invariant c.in-Some.ensures.steps refl c.match_key.ensures c.add_line.new.self c.in-Some-behind_first.rest.now
     c.in-Some-behind_first.ensures c.in_ok-add_line.ensures.gathered

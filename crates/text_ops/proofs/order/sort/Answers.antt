@@ -18,7 +18,7 @@ pub loop-sort_key-init : goal.loop-sort_key-init
 loop-sort_key-init c =
     let bytes = c.as_slice-bytes.result.now in
     let normal = subst IsNormal (sym c.as_slice-bytes.ensures.value) c.as_slice-bytes.ensures.normal in
-    SortedSoFar-start bytes c.in_ok-sort_keys.sort_keys.items c.turn.new.sort_keys.items c.in_ok-made.made normal c.in_ok-sort_keys.ensures c.turn.ensures c.in_ok-made.ensures
+    SortedSoFar-start bytes c.in_ok-sort_keys.sort_keys.items c.reverse.new.self.items c.in_ok-made.made normal c.in_ok-sort_keys.ensures c.reverse.ensures.items c.in_ok-made.ensures
 
 pub add_keyed_line-requires : goal.add_keyed_line-requires
 add_keyed_line-requires c =
@@ -27,7 +27,7 @@ add_keyed_line-requires c =
 pub loop-sort_key-preserved : goal.loop-sort_key-preserved
 loop-sort_key-preserved c =
     let text = c.as_slice-bytes.result.now in
-    subst (λ left. SortedSoFar text left c.add_keyed_line.new.made) (sym c.release.ensures)
+    subst (λ left. SortedSoFar text left c.add_keyed_line.new.made) (sym c.give_back_memory.ensures)
     (SortedSoFar-next text c.loop-sort_key.sort_keys.items c.pop.new.self.items c.in-Some.sort_key c.loop-sort_key.made c.loop-sort_key.invariant c.in-Some.ensures.items c.add_keyed_line.new.made c.in_ok-add_keyed_line.ensures)
 
 pub finish-requires : goal.finish-requires
