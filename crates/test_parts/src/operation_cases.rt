@@ -3,7 +3,8 @@
 
 /// In each line an operation, a text, and the operation's value worked out by hand. They are on lines that are kept or
 /// left out, the first and the last lines, lines in order, lines that repeat, and lines joined with those of another
-/// text.
+/// text. In the last two rows keys have one first slot in the table of `match`: two keys and one that isn't there, and
+/// more than so many as slots are looked at.
 pub(crate) const BY_HAND: &str = "\
 pass||\n\
 pass|~|~\n\
@@ -57,6 +58,8 @@ match 10_x_y~30_z~10_q~20~|10_a~20_b~10_c~30~|10_a_x_y~20_b~10_c_x_y~30_z~\n\
 match |a~|\n\
 match _x~|~_a~b~|_x~_a_x~\n\
 match abcdefgh1_p~abcdefgh2_q~|abcdefgh2~abcdefgh~|abcdefgh2_q~\n\
+match k_1~r_2~|r~t~k_x~|r_2~k_x_1~\n\
+match aaa_1~aer~atx~aus~azc~baq~beo~bfb~bhw~blm~brz~bwk~byx~bzs~cci~cjo~cnx_17~aaa_18~|cnx~aaa_x~zz~|cnx_17~aaa_x_1~\n\
 ";
 
 /// The operations of the table below.
