@@ -13,6 +13,9 @@ use std::alloc::Global;
 // At most so large a part of the lines may be different.
 const PART: usize = 8;
 
+// So many slots there are for each row: with fewer, 16 that follow one another would often be taken.
+const SLOTS: usize = 4;
+
 /// The different lines of a text, in the order of their bytes, each with how often it occurs. `None`: perhaps more than
 /// an eighth of the lines are different.
 pub(crate) fn counted_lines<'t>(
@@ -24,7 +27,7 @@ pub(crate) fn counted_lines<'t>(
 {
     let most = line_ends(text) / PART;
     let mut rows = Vec::new(alloc);
-    let mut slots = vec![in alloc; usize::MAX; 2 * most + PROBES]?;
+    let mut slots = vec![in alloc; u32::MAX; SLOTS * most + PROBES]?;
     for line in Lines::new(text) {
         if rows.len() > most {
             return Ok(None);
@@ -41,7 +44,7 @@ pub(crate) fn counted_lines<'t>(
 // Counts a line. The slots are only hints: a line that they don't lead to gets one more row.
 fn count_line<'t>(
     rows: &mut Vec<CountedLine<'t>>,
-    slots: &mut [usize],
+    slots: &mut [u32],
     line: &'t [u8],
 ) -> Result<(), NoMemory>
     ensures { OnOk result (CountsOneMore line.entry.now rows.old.items rows.new.items) }
@@ -59,27 +62,28 @@ fn count_line<'t>(
     Ok(())
 }
 
-// Notes a row in a slot.
-fn note(slots: &mut [usize], slot: usize, row: usize) {
-    if let Some(noted) = slots.get_mut(slot) {
+// Notes a row in a slot, if its number fits there.
+fn note(slots: &mut [u32], slot: usize, row: usize) {
+    if let (Some(noted), Ok(row)) = (slots.get_mut(slot), u32::try_from(row)) {
         *noted = row;
     }
 }
 
 // Looks for a line by its hash.
-fn find(rows: &[CountedLine<'_>], slots: &[usize], line: &[u8]) -> Probed
+fn find(rows: &[CountedLine<'_>], slots: &[u32], line: &[u8]) -> Probed
     ensures { IsFound rows.now line.now result }
 {
     let first = first_slot(line, slots.len());
     for slot in first..first + PROBES {
-        let Some(row) = slots.get(slot) else {
+        let Some(noted) = slots.get(slot) else {
             return Probed::Crowded;
         };
-        let Some(counted) = rows.get(*row) else {
+        let row = *noted as usize;
+        let Some(counted) = rows.get(row) else {
             return Probed::Free(slot);
         };
         if counted.line == line {
-            return Probed::Row(*row);
+            return Probed::Row(row);
         }
     }
     Probed::Crowded
