@@ -246,7 +246,7 @@ numbers_of_a_file = refl
 first_graph_without_a_name : (file_numbers (file (doing a (runs c) ∷ []) (doing a (runs c) ∷ []) []) ≡ Err (NoSuchName (Task 0) (codes "module"))) × (file_numbers (file [] (doing a (runs c) ∷ []) (doing a (runs c) ∷ [])) ≡ Err (NoSuchName (ModuleTask 0 0) (codes "module")))
 first_graph_without_a_name = (refl, refl)
 
--- where a name stands twice
+-- where a name occurs twice
 abbrev twice : ℕ → GraphError
 twice place = Repeated (Sem place) (codes "name")
 

@@ -169,7 +169,8 @@ fn gather_all<F: Fold>(
 const CHUNKS_FOR_EACH: u64 = 64;
 
 // How many indices are drawn at once: `grain`, or a multiple of it where there would be too many chunks. So each chunk
-// begins where one of `grain` indices would.
+// begins where one of `grain` indices would. But where the multiple would be over 1,000,000 it is 1,000,000, which
+// needn't be a multiple.
 fn drawn_grain(count: u64, grain: u64, workers: u32) -> u64
     requires some { 1 ≤ workers }
     requires few { workers ≤ 16 }

@@ -9,7 +9,7 @@ use Rattle.std.specs.List.{list_any, position_from}
 use Rattle.graph_drafts.specs.declared.refusals.GraphError.{GraphError}
 use Rattle.graph_file.specs.PlanText.{add_name}
 use Rattle.graph_drafts.specs.Steps.{walk}
-use Rattle.graph_file.specs.inside.Lookups.{AreNew, HasPlaces, KeepsPlace, StandOnce, place_in}
+use Rattle.graph_file.specs.inside.Lookups.{AreNew, HasPlaces, KeepsPlace, OccurOnce, place_in}
 use Rattle.graph_drafts.specs.inside.Reading.{strings}
 use Rattle.graph_file.proofs.PlaceLemmas.{HasPlaces-more}
 
@@ -33,9 +33,9 @@ none-not (Some x) = refl
 pub new-name : {S : Type 0} (places : HashMap (Bor (List ℕ)) ℕ S) (names : List (List ℕ)) (name : List ℕ) (new : Bool) → HasPlaces places names → new ≡ is_none (place_in places name) → new ≡ not (list_any (bytes_eq name) names)
 new-name places names name new has noted = noted ∙ none-not _ ∙ ap not (ap is_some (has name) ∙ some_place (bytes_eq name) names)
 
--- the same where each name is known to stand once, or else a map has the places
+-- the same where each name is known to occur once, or else a map has the places
 pub new-or_once : {S : Type 0} (places : HashMap (Bor (List ℕ)) ℕ S) (names : List (List ℕ)) (i : ℕ) (name : List ℕ) (once new : Bool) → i < length names → name ≡ get_or names i name
-    → (once ≡ true → StandOnce names) → (once ≡ false → HasPlaces places (take i names)) → new ≡ (once || is_none (place_in places name)) → new ≡ not (list_any (bytes_eq name) (take i names))
+    → (once ≡ true → OccurOnce names) → (once ≡ false → HasPlaces places (take i names)) → new ≡ (once || is_none (place_in places name)) → new ≡ not (list_any (bytes_eq name) (take i names))
 new-or_once places names i name true new within is once has noted = noted ∙ sym (once refl i name within is)
 new-or_once places names i name false new within is once has noted = new-name places (take i names) name new (has refl) noted
 
@@ -52,7 +52,7 @@ pub HasPlaces-string : {S : Type 0} (old new : HashMap (Bor (List ℕ)) ℕ S) (
     → HasPlaces old (take i (strings names)) → KeepsPlace old name.now i new → HasPlaces new (take (i + 1) (strings names))
 HasPlaces-string old new names i name within is = HasPlaces-more old new (strings names) i name.now (string-within names i within) (string-at names i name within is)
 
--- one name more stands once, if it is new
+-- one name more occurs once, if it is new
 pub AreNew-more : (names : List (Bor (List ℕ))) (i : ℕ) (name : Bor (List ℕ)) (once new : Bool) → i < length names → name ≡ get_or names i name → new ≡ not (list_any (bytes_eq name.now) (take i (strings names)))
     → (once ≡ true → AreNew (strings names) i) → (once && new) ≡ true → AreNew (strings names) (i + 1)
 AreNew-more names i name once new within is noted so_far both k other less at = by_place (cases_lt k i)
@@ -65,8 +65,8 @@ AreNew-more names i name once new within is noted so_far both k other less at = 
         let same : other ≡ name.now = found ∙ get_or_default (strings names) i other name.now (string-within names i within) ∙ sym (string-at names i name within is) in
         rw (here, same) (sym noted ∙ (and_parts once new both).1)
 
--- past the end each stands once
-pub AreNew-all : (names : List (Bor (List ℕ))) (i : ℕ) → length names ≤ i → AreNew (strings names) i → StandOnce (strings names)
+-- past the end each occurs once
+pub AreNew-all : (names : List (Bor (List ℕ))) (i : ℕ) → length names ≤ i → AreNew (strings names) i → OccurOnce (strings names)
 AreNew-all names i past so_far k name less at = let count : length (strings names) ≡ length names = length-map names (λ s. s.now) in so_far k name (omega (arith, less, past, count)) at
 
 -- ---- the walk over the names

@@ -1,7 +1,7 @@
 // The places of names.
 ghost use Rattle.std.specs.Prelude.{◌≡◌, [], true, IfOk, OnOk, None, is_none, map};
 ghost use Rattle.graph_file.specs.PlanText.{number_among, with_text};
-ghost use Rattle.graph_file.specs.inside.Lookups.{HasPlaces, IsIndex, KeepsPlace, StandOnce, place_in};
+ghost use Rattle.graph_file.specs.inside.Lookups.{HasPlaces, IsIndex, KeepsPlace, OccurOnce, place_in};
 ghost use Rattle.graph_drafts.specs.inside.Reading.{strings};
 
 use graph_drafts::{Draft, FileTask};
@@ -20,13 +20,13 @@ pub(crate) fn places_of<'n>(alloc: Global, names: &[&'n str]) -> Result<Places<'
     Ok(places)
 }
 
-/// The same, and whether each name stands once.
+/// The same, and whether each name occurs once.
 pub(crate) fn places_and_once<'n>(
     alloc: Global,
     names: &[&'n str],
 ) -> Result<(Places<'n>, bool), NoMemory>
     ensures places { IfOk result (λ found. HasPlaces found.0 (strings names.now)) }
-    ensures once { IfOk result (λ found. found.1 ≡ true → StandOnce (strings names.now)) }
+    ensures once { IfOk result (λ found. found.1 ≡ true → OccurOnce (strings names.now)) }
 {
     let mut places = HashMap::with_capacity(alloc, names.len())?;
     let mut once = true;

@@ -2,7 +2,7 @@
 ghost use Rattle.std.specs.Prelude.{◌≡◌, ◌++◌, ◌∷◌, [], true, codes, map, IfOk, OnOk};
 ghost use Rattle.graph_file.specs.PlanText.{add_graph_numbers, add_numbers, file_numbers, graph_numbers, names_of_modules, runs_one_of, task_names};
 ghost use Rattle.graph_drafts.specs.Steps.{passed, walk};
-ghost use Rattle.graph_file.specs.inside.Lookups.{HasPlaces, IsIndex, StandOnce};
+ghost use Rattle.graph_file.specs.inside.Lookups.{HasPlaces, IsIndex, OccurOnce};
 ghost use Rattle.graph_drafts.specs.inside.Reading.{Leads, Reads, ReadsAs, draft_rows, file_op_row, file_rows, strings, task_text};
 ghost use Rattle.graph_file.specs.inside.Reader.{numbers_rows, put_place};
 
@@ -43,7 +43,7 @@ pub(crate) fn numbers_of(
     requires modules { strings modules.now.names ≡ names_of_modules (file_rows file.now) }
     ensures numbers { ReadsAs numbers_rows result (file_numbers (file_rows file.now)) }
     ensures once { IfOk result (λ numbers. numbers.once ≡ true
-        → StandOnce (task_names (file_rows file.now).top)) }
+        → OccurOnce (task_names (file_rows file.now).top)) }
 {
     let (top, once) = numbers_in(alloc, &file.top, modules)?;
     let mut numbers = Vec::new(alloc);
@@ -110,7 +110,7 @@ fn numbers_in(
     ensures numbers { ReadsAs (λ found. found.0) result
         (graph_numbers (strings modules.now.names) (draft_rows draft.now)) }
     ensures once { IfOk result (λ found. found.1 ≡ true
-        → StandOnce (task_names (draft_rows draft.now))) }
+        → OccurOnce (task_names (draft_rows draft.now))) }
 {
     let names = names_of_tasks(alloc, draft.tasks.as_slice())?;
     let (tasks, once) = places_and_once(alloc, names.as_slice())?;

@@ -19,7 +19,7 @@ use std::alloc::Global;
 /// semaphore and each task in turn, then those of each module, its semaphores and its tasks. `NoSuchName`: a name in
 /// `module` that no module has, one in `to` that no task of the graph has, or one in `holds`, `acquire` or `release`
 /// that no semaphore of the graph has. `Repeated`: a name of a semaphore or task that an earlier one of the graph has,
-/// or of a module that an earlier one has, or one that stands twice in `holds`, `acquire` or `release`. `ModuleCycle`:
+/// or of a module that an earlier one has, or one that occurs twice in `holds`, `acquire` or `release`. `ModuleCycle`:
 /// the module of this name runs itself, directly or through others, and no module before it in the file does.
 /// `TooMany`: more than 10,000 tasks, 100,000 edges or 256 semaphores in all graphs together, 64 modules, a chain of 8
 /// modules from the top graph on of which each runs the next, or 1,024 different texts. These classes are tried in this

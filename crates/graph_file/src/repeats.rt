@@ -1,10 +1,10 @@
-// Names that stand twice.
+// Names that occur twice.
 ghost use Rattle.std.specs.Prelude.{◌≡◌, ◌||◌, ℕ, [], true, false, is_none, IfOk, OnOk, codes, map};
 ghost use Rattle.graph_drafts.specs.Fields.{sem_spot};
 ghost use Rattle.graph_file.specs.PlanText.{add_module_name, add_name, add_task_name, file_names, graph_names, names_of_modules, task_names};
 ghost use Rattle.graph_drafts.specs.Steps.{walk};
 ghost use Rattle.graph_drafts.specs.inside.Reading.{Leads, draft_rows, file_rows, named_task, strings};
-ghost use Rattle.graph_file.specs.inside.Lookups.{KeepsPlace, StandOnce, place_in};
+ghost use Rattle.graph_file.specs.inside.Lookups.{KeepsPlace, OccurOnce, place_in};
 ghost use Rattle.graph_file.specs.inside.Reader.{once_module, once_or, unless_repeated};
 
 use crate::lookups::{Places, keep_place};
@@ -18,9 +18,9 @@ use std::alloc::Global;
 use std::collections::HashMap;
 
 /// That no module, and no semaphore or task of a graph, has the name of an earlier one, and that no task has a
-/// semaphore twice in a list. With `once` each name of a task of the top graph is known to stand once.
+/// semaphore twice in a list. With `once` each name of a task of the top graph is known to occur once.
 pub(crate) fn check_names(alloc: Global, file: &FileDraft<'_>, once: bool) -> Result<(), GraphError>
-    requires { once ≡ true → StandOnce (task_names (file_rows file.now).top) }
+    requires { once ≡ true → OccurOnce (task_names (file_rows file.now).top) }
     ensures { Leads result (names_of_modules (file_rows file.now))
         (file_names (file_rows file.now)) }
 {
@@ -61,9 +61,9 @@ fn check_module(
 }
 
 // That no semaphore and no task of a graph has the name of an earlier one, or a semaphore twice in a list. With `once`
-// each name of a task is known to stand once.
+// each name of a task is known to occur once.
 fn check_graph(alloc: Global, draft: &Draft<'_>, once: bool) -> Result<(), GraphError>
-    requires { once ≡ true → StandOnce (task_names (draft_rows draft.now)) }
+    requires { once ≡ true → OccurOnce (task_names (draft_rows draft.now)) }
     ensures { Leads result (task_names (draft_rows draft.now)) (graph_names (draft_rows draft.now)) }
 {
     if let Err(refusal) = check_semaphores(alloc, draft.scope, draft.sem_names.as_slice()) {
@@ -99,7 +99,7 @@ fn check_tasks(
     tasks: &[FileTask<'_>],
     once: bool,
 ) -> Result<(), GraphError>
-    requires { once ≡ true → StandOnce (map (λ task. task.names.name.now) tasks.now) }
+    requires { once ≡ true → OccurOnce (map (λ task. task.names.name.now) tasks.now) }
     ensures { Leads result (map (λ task. task.names.name.now) tasks.now)
         (walk (add_task_name scope version) [] (map (λ task. named_task task.names) tasks.now)) }
 {
@@ -113,7 +113,7 @@ fn check_tasks(
     Ok(())
 }
 
-// Whether a name is new: known where each stands once, or else seen by the places of those before, among which it gets
+// Whether a name is new: known where each occurs once, or else seen by the places of those before, among which it gets
 // its own.
 fn is_new<'n>(
     places: &mut Places<'n>,
@@ -151,7 +151,7 @@ fn check_task(
     check_list(alloc, spot, puts_field(version), task.puts.as_slice())
 }
 
-// That no name stands twice in the list of a field.
+// That no name occurs twice in the list of a field.
 #[tactic(auto, using(crate::proofs::NameLemmas::few_names))]
 fn check_list(alloc: Global, spot: Spot, field: &str, names: &[&str]) -> Result<(), GraphError>
     ensures { Leads result (strings names.now)

@@ -44,8 +44,8 @@ impl From<AllocError> for Unread {
 const MAX_DEPTH: usize = 127;
 
 impl<'v> Value<'v> {
-    /// The value that bytes are. A string with an escape is written into `scratch`, which grows to at most as many bytes
-    /// as `bytes` has.
+    /// The value that bytes are. A string with an escape is written into `scratch`, which grows to at most as many
+    /// bytes as `bytes` has.
     pub fn from_slice(
         alloc: Global,
         bytes: &'v [u8],

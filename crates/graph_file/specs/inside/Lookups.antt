@@ -20,13 +20,13 @@ module _ {S : Type 0} where
   abbrev pub KeepsPlace : HashMap (Bor (List ℕ)) ℕ S → List ℕ → ℕ → HashMap (Bor (List ℕ)) ℕ S → Type 0
   KeepsPlace old name place new = (q : List ℕ) → place_in new q ≡ option_or (place_in old q) (if bytes_eq q name then Some place else None)
 
--- none of so many names, the first ones, stands before its place
+-- none of so many names, the first ones, occurs before its place
 abbrev pub AreNew : List (List ℕ) → ℕ → Type 0
 AreNew names count = (k : ℕ) (name : List ℕ) → k < count → name ≡ get_or names k name → not (list_any (bytes_eq name) (take k names)) ≡ true
 
--- each of the names stands once
-abbrev pub StandOnce : List (List ℕ) → Type 0
-StandOnce names = AreNew names (length names)
+-- each of the names occurs once
+abbrev pub OccurOnce : List (List ℕ) → Type 0
+OccurOnce names = AreNew names (length names)
 
 -- the map of an index has the first place of each of its names
 abbrev pub IsIndex : Index → Type 0

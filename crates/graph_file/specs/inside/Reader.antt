@@ -21,9 +21,9 @@ numbers_rows numbers = record { top = numbers.top; modules = numbers.modules.ite
 abbrev pub put_place : {S : Type 0} → HashMap (Bor (List ℕ)) ℕ S → GraphError → List ℕ → List ℕ → Result (List ℕ) GraphError
 put_place places refusal numbers name = put_each (place_in places) (λ number. number) refusal numbers name
 
--- ---- names that stand twice
+-- ---- names that occur twice
 
--- the names, unless one stands at this place that stood before
+-- the names, unless one occurs at this place that occurred before
 abbrev pub unless_repeated : (ℕ → GraphError) → List (List ℕ) → Option ℕ → Result (List (List ℕ)) GraphError
 unless_repeated refusal names None = Ok names
 unless_repeated refusal names (Some place) = Err (refusal place)

@@ -3,7 +3,7 @@ use Rattle.std.specs.List.{position}
 use Rattle.std.specs.Str.{bytes_eq}
 use Rattle.graph_file.specs.PlanText.{task_names}
 use Rattle.graph_drafts.specs.inside.Reading.{draft_rows, strings}
-use Rattle.graph_file.specs.inside.Lookups.{StandOnce}
+use Rattle.graph_file.specs.inside.Lookups.{OccurOnce}
 use Rattle.graph_file.proofs.NumberLemmas.{names-drafted}
 use Rattle.graph_file.proofs.numbers.numbers_in.Goals as goal
 
@@ -17,4 +17,4 @@ pub returns-clause-once : goal.returns-clause-once
 returns-clause-once c once =
     let named : strings c.as_slice-2.result.now ≡ task_names (draft_rows c.args.draft.now) =
     ap strings c.as_slice-2.ensures ∙ c.in_ok-names.ensures ∙ names-drafted c.args.draft.now c.as_slice.result.now c.as_slice.ensures.value in
-    subst StandOnce named (c.in_ok-tasks.ensures.once once)
+    subst OccurOnce named (c.in_ok-tasks.ensures.once once)
