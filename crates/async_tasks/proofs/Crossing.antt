@@ -1,5 +1,5 @@
--- A book of tasks may be shared by threads, and its seats and passes may go to them: of the types that they are made of,
--- one after the other, since a search for all at once gives up.
+-- A book of tasks may be shared by threads, and its seats and passes may go to them: of the types that they are made
+-- of, one after the other, since a search for all at once gives up.
 use denote.RattleType.{RattleType}
 use denote.Param.Send.{IsSend, IsSync, sendable}
 use Rattle.std.proofs.Crossing.{crosses, frees}

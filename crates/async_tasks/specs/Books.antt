@@ -9,7 +9,8 @@ use Rattle.async_tasks.specs.declared.outstanding.Outstanding.TheVariants.{Pass,
 use Rattle.async_tasks.specs.declared.stage.Stage.{Stage}
 use Rattle.async_tasks.specs.declared.stage.Stage.TheVariants.{Waiting, Open, Over}
 
--- A book: the table of its tickets, how many callers it has, its adds, what happened, each task's work and how far it is, and what is outstanding
+-- A book: the table of its tickets, how many callers it has, its adds, what happened, each task's work and how far it
+-- is, and what is outstanding
 pub record BookHistory (W V : Type 0) : Type 0 where
   pub register : TableId
   pub callers : ℕ

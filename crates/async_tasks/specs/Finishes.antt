@@ -14,13 +14,15 @@ use Rattle.async_tasks.specs.Starts.{HasSeen}
 use Rattle.async_tasks.specs.AsyncBooks.{AsyncBookState, ArePassesOf}
 use Rattle.async_tasks.specs.Runs.{IsAsyncRun}
 
--- The run is a finished one, the adds of each caller are those that its pass has kept, in its order, and there are no others.
+-- The run is a finished one, the adds of each caller are those that its pass has kept, in its order, and there are no
+-- others.
 pub record IsDone {W V : Type 0} (answers : W → List V → V → Type 0) (callers : ℕ) (passes : List (PassState W V)) (run : AsyncRun W V) : Type 0 where
   pub is_run : IsAsyncRun answers callers run
   pub kept_all : (c : ℕ) (pass : PassState W V) → slice_get passes c ≡ Some pass → kept_of c run.adds ≡ kept pass
   pub counted : length run.adds ≡ sum_by (λ (pass : PassState W V). length (kept pass)) passes
 
--- The book was found with this history, in which the task has no end. The passes are those that come back: they have seen its rows.
+-- The book was found with this history, in which the task has no end. The passes are those that come back: they have
+-- seen its rows.
 pub record IsOpenAt {W V : Type 0} (book : AsyncBookState) (passes back : List (PassState W V)) (task : ℕ) (found : BookHistory W V) : Type 0 where
   pub same : key_of found ≡ book_key book.register book.callers
   pub history : IsHistory found.callers found.rows found.events

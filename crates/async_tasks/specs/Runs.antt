@@ -6,8 +6,8 @@ use Rattle.async_tasks.specs.declared.run.AsyncRun.{AsyncRun}
 use Rattle.async_tasks.specs.Histories.{times_started, times_ended, IsHistory, found}
 use Rattle.async_tasks.specs.Books.{value_at}
 
--- The adds and the events are a right history, in which each task was started once and ended. There is one work for each
--- task, and one value, which its work may come to on the values of the tasks named.
+-- The adds and the events are a right history, in which each task was started once and ended. There is one work for
+-- each task, and one value, which its work may come to on the values of the tasks named.
 pub record IsAsyncRun {W V : Type 0} (answers : W → List V → V → Type 0) (callers : ℕ) (run : AsyncRun W V) : Type 0 where
   pub history : IsHistory callers run.adds run.events
   pub complete : (t : ℕ) → t < length run.adds → (times_started run.events t ≡ 1) × (times_ended run.events t ≡ 1)

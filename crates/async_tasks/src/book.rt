@@ -116,8 +116,8 @@ impl<W: AsyncWork> AsyncBook<W> {
 }
 
 impl<W: AsyncWork> AsyncBook<W> {
-    // Queues a ready task that was taken off the state, from outside. Where the list has no room for it, it goes back to
-    // the state.
+    // Queues a ready task that was taken off the state, from outside. Where the list has no room for it, it goes back
+    // to the state.
     fn inject<R: Wait>(&self, rt: &R, ready: Option<u32>) {
         let Some(task) = ready else { return };
         if self.ready.inject(rt, ReadyTask { task }).is_err() {

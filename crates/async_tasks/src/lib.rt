@@ -39,9 +39,9 @@
 //! several ready, the others are queued under the lock. The work that ended and its inputs are dropped after. So the
 //! book calls `add_in` and `end_in` by forms of them that are given the list, and that give back what is to be dropped.
 //!
-//! Calls come to the lock through a gate, one at a time (`LockGate`), and a call that finds it closed keeps away from it
-//! for some microseconds: the state, which is in the cache of one processor, goes to another the less often. A seat that
-//! finds nothing to do again and again sleeps between its looks (`Patience`). No proof rests on either.
+//! Calls come to the lock through a gate, one at a time (`LockGate`), and a call that finds it closed keeps away from
+//! it for some microseconds: the state, which is in the cache of one processor, goes to another the less often. A seat
+//! that finds nothing to do again and again sleeps between its looks (`Patience`). No proof rests on either.
 //!
 //! `finish` gives the run where each task ended. Since a pass has seen all rows of its caller, and is given back there,
 //! the rows of each caller are just those that its pass has kept.

@@ -124,8 +124,8 @@ a_semaphore_in_a_module : spot_text (ModuleSem 0 70) ≡ codes "module 0 semapho
 unfolding digits
 a_semaphore_in_a_module = refl
 
--- A plan: tasks 0, 1 and 2 of its top graph are `a`, which runs a module, `b`, which is a spread, and `c`; task 3 is `d`, a
--- pipeline of three pipes. The module's task 0 is `x` and runs that module; its task 1 is `y`, a spread.
+-- A plan: tasks 0, 1 and 2 of its top graph are `a`, which runs a module, `b`, which is a spread, and `c`; task 3 is
+-- `d`, a pipeline of three pipes. The module's task 0 is `x` and runs that module; its task 1 is `y`, a spread.
 abbrev no_net : NetRows
 no_net = record { tasks = []; edges = []; sems = [] }
 

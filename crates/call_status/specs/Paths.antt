@@ -1,13 +1,13 @@
--- The tasks of a path by their names. A path leads from a task of a plan's top graph into the run that the task made, to a
--- task of that run, and so on.
+-- The tasks of a path by their names. A path leads from a task of a plan's top graph into the run that the task made,
+-- to a task of that run, and so on.
 use Rattle.std.specs.Prelude.{ℕ, ◌/◌, ◌%◌, ◌==◌, List, [], ◌∷◌, ◌++◌, codes, decimal, length, slice_get, slice_index_or, Option, None, Some, if◌then◌else◌}
 use Rattle.std.specs.Option.{option_map_or}
 use Rattle.graph_plans.specs.declared.ops.Op.{Op}
 use Rattle.graph_plans.specs.declared.ops.Op.TheVariants.{Module, Pipe}
 use Rattle.graph_plans.specs.PlanRows.{GraphRows, PlanRows}
 
--- what the next task of a path is one of: the tasks of a graph, parts that are worked on side by side, or the cells of a
--- pipeline of so many pipes
+-- what the next task of a path is one of: the tasks of a graph, parts that are worked on side by side, or the cells of
+-- a pipeline of so many pipes
 pub data Among : Type 0 where
   tasks : GraphRows → Among
   parts : Among

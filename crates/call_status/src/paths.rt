@@ -20,8 +20,8 @@ enum Among<'p> {
 }
 
 /// Adds the tasks of a path that begins in the top graph, with a slash between two: a task of a graph by its name, a
-/// part of a spread by its number, and a cell of a pipeline by the numbers of its line and its pipe with a point between
-/// them. Without a plan each goes by its number.
+/// part of a spread by its number, and a cell of a pipeline by the numbers of its line and its pipe with a point
+/// between them. Without a plan each goes by its number.
 pub(crate) fn add_path(line: &mut Bytes, plan: Option<&Plan>, path: &[u32]) -> Result<(), NoMemory>
     ensures { OnOk result (line.new
         ≡ line.old ++ path_text (option_map plan_rows (option_copied plan.entry)) path.now) }

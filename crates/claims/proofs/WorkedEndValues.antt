@@ -80,8 +80,8 @@ known_twice = record { value_at = two_ends_at; all = (refl, (refl, tt)) }
 same_of_one_end : (v w : ℕ) → HaveOneValueEach (ended_with 3 v ++ ended_with 3 w) → v ≡ w
 same_of_one_end v w one = ap (λ o. unwrap_or o 0) (sym one.all.0 ∙ one.all.1.0)
 
--- A start found the value 7 of the End at place 3 and the token with which an edge began, another one the value 8 of the End
--- at place 5, and a third one nothing.
+-- A start found the value 7 of the End at place 3 and the token with which an edge began, another one the value 8 of
+-- the End at place 5, and a third one nothing.
 module _ (shared : Arc ℕ Global) (this other nothing : FoundParts ℕ) (found : parts_of this.ins.value ≡ Value 3 (arc_with_value shared 7) ∷ FirstToken ∷ []) (other_found : parts_of other.ins.value ≡ Value 5 (arc_with_value shared 8) ∷ []) (none_found : parts_of nothing.ins.value ≡ []) where
   abbrev seven : Arc ℕ Global
   seven = arc_with_value shared 7

@@ -1,5 +1,5 @@
--- By which causes tasks may be released, the one journal of the entries that seats have, when fates tell a run, and what
--- batches, shares and inputs say.
+-- By which causes tasks may be released, the one journal of the entries that seats have, when fates tell a run, and
+-- what batches, shares and inputs say.
 use Rattle.std.proofs.Common.{◌≡◌, ℕ, zero, suc, ◌<◌, true, false, List, [], ◌∷◌, length, map, Some, None, refl, ap, sym, subst, ◌∙◌, arith}
 use Rattle.std.specs.Prelude.{◌==◌, count_by, slice_get}
 use Rattle.std.specs.Arc.{arc_with_value}

@@ -397,8 +397,8 @@ module _ (n m b c : TableId) (other : m ≢ n) (foreign : c ≢ b) where
     each_drop_is_allowed : IsAllowed mute 2 (Dropped dropped) None
     each_drop_is_allowed = record { by_job = refl; kept = tt }
 
-    -- With a run in place of its work: the run is of the job that the task answers, it may be kept, and what the start comes to
-    -- is what the run is gathered to.
+    -- With a run in place of its work: the run is of the job that the task answers, it may be kept, and what the start
+    -- comes to is what the run is gathered to.
     module _ (run : FrameRun ℕ ℕ) where
       abbrev inner_end : Fate ℕ
       inner_end = Ended (record (ended 10 1) { gives = 1 ∷ []; inner = true })
@@ -440,8 +440,8 @@ module _ (n m b c : TableId) (other : m ≢ n) (foreign : c ≢ b) where
     edges_that_were_given : (given_by (Ended (record (ended 10 0) { gives = 0 ∷ [] })) ≡ 0 ∷ []) × (given_by (Faulted (failed (Long 10))) ≡ []) × (given_by {V = ℕ} (Dropped dropped) ≡ [])
     edges_that_were_given = (refl, refl, refl)
 
-  -- ---- Releases that a step makes: by the edges that were given, in their order, behind those that were there, and then the
-  -- task itself once more where strong edges released it.
+  -- ---- Releases that a step makes: by the edges that were given, in their order, behind those that were there, and
+  -- then the task itself once more where strong edges released it.
   abbrev zeroth : FreshState
   zeroth = fresh_state n 0 Source
 
@@ -983,7 +983,8 @@ module _ (n m b c : TableId) (other : m ≢ n) (foreign : c ≢ b) where
     some_taken_in : MayTakeIn own (fate ∷ []) ⊥ (Some (keeper_that_found 2)) × ¬ MayTakeIn own (fate ∷ []) ⊥ (Some (keeper_that_found 1))
     some_taken_in = (goes_on_before_the_last, goes_on_after_the_last)
 
-    -- A bringing that failed leaves the backlog as it was, or empty: then it is of its frame, of the one around, or of none.
+    -- A bringing that failed leaves the backlog as it was, or empty: then it is of its frame, of the one around, or of
+    -- none.
     leaves_what_was : IsLeftOf {J = ℕ} {V = ℕ} (backlog_view inside (fate ∷ [])) (backlog_view inside (fate ∷ []))
     leaves_what_was = inl refl
 

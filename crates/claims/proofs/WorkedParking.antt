@@ -1,4 +1,5 @@
--- What a yard has after turns of `WorkedTurns`' net were parked, woken and settled: task 0 takes semaphores 0 and 2, task 2 takes 0.
+-- What a yard has after turns of `WorkedTurns`' net were parked, woken and settled: task 0 takes semaphores 0 and 2,
+-- task 2 takes 0.
 use Rattle.std.proofs.Common.{◌≡◌, ◌≢◌, ℕ, zero, suc, ◌+◌, List, [], ◌∷◌, ◌++◌, length, take, Option, Some, None, refl, ap, sym, subst, ◌∙◌, arith}
 use Rattle.std.specs.Prelude.{slice_get}
 use Rattle.std.specs.Global.{Global}

@@ -1,4 +1,5 @@
--- Pipelines in graph files, computed on small ones: what their fields hold, why they are refused, and how they are written.
+-- Pipelines in graph files, computed on small ones: what their fields hold, why they are refused, and how they are
+-- written.
 use Rattle.std.proofs.Common.{◌≡◌, ℕ, zero, suc, ◌≤◌, Bool, true, false, List, [], ◌∷◌, map, replicate, slice_get, All, Some, None, Ok, Err, refl, codes, arith}
 use Rattle.std.proofs.lemmas.List.{length-replicate}
 use Rattle.serde_json.specs.Data.{Data, boolean, string, number, unsigned, array, object, no_members, member}

@@ -1,4 +1,5 @@
--- What a release comes to in a run over a table, before it is done and then, on a plain task that leads to a nested one.
+-- What a release comes to in a run over a table, before it is done and then, on a plain task that leads to a nested
+-- one.
 use Rattle.std.proofs.Common.{◌≡◌, ◌≢◌, ℕ, zero, suc, ◌+◌, ◌<◌, ◌≤◌, Bool, true, false, List, [], ◌∷◌, length, map, Option, Some, None, inl, inr, refl, ap, sym, subst, ◌∙◌, arith}
 use Rattle.std.specs.Prelude.{◌⊎◌, ◌==◌}
 use Rattle.std.specs.Global.{Global}

@@ -18,7 +18,8 @@ abbrev first_value : List (ℕ × Option ℕ) → Option ℕ
 first_value [] = None
 first_value (slot ∷ slots) = slot.1
 
--- A lock was made with the value of its key. A pass is for the lock of its own table, and has slot 0 with nothing in it.
+-- A lock was made with the value of its key. A pass is for the lock of its own table, and has slot 0 with nothing in
+-- it.
 module _ (lock : KeyedLock ℕ) (pass : LockPass ℕ) where
   value_of_its_key : lock.table.shared.key.value ≡ 7 → (made_with lock ≡ 7) × ¬ (made_with lock ≡ 8)
   value_of_its_key seven = (seven, λ eight. absurd (omega (arith, seven, eight)))

@@ -1,4 +1,5 @@
--- The units that turns of a table hold, what becomes of releases, how a table begins, and when a keeper tells a whole run.
+-- The units that turns of a table hold, what becomes of releases, how a table begins, and when a keeper tells a whole
+-- run.
 use Rattle.std.proofs.Common.{◌≡◌, ℕ, zero, suc, ◌+◌, ◌<◌, Bool, true, false, List, [], ◌∷◌, length, map, Option, Some, None, refl, ap, sym, subst, ◌∙◌, inl, arith}
 use Rattle.std.specs.Prelude.{◌==◌, ◌||◌, ◌&&◌, not, count_by, All}
 use Rattle.std.proofs.lemmas.Bool.Decides.{nat_tests}

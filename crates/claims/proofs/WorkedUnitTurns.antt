@@ -1,5 +1,5 @@
--- What turns do with units of semaphores, on the net of `WorkedTurns`: task 0 takes and puts semaphores 0 and 2, task 1 needs
--- none, task 2 only takes semaphore 0, and task 3 only puts it. Semaphore 0 has two units, each other one.
+-- What turns do with units of semaphores, on the net of `WorkedTurns`: task 0 takes and puts semaphores 0 and 2, task 1
+-- needs none, task 2 only takes semaphore 0, and task 3 only puts it. Semaphore 0 has two units, each other one.
 use Rattle.std.proofs.Common.{◌≡◌, ◌≢◌, ℕ, true, false, List, [], ◌∷◌, length, Option, Some, None, refl, ap, sym, subst, arith}
 use Rattle.std.specs.Prelude.{All}
 use Rattle.std.specs.Global.{Global}

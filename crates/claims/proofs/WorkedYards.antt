@@ -1,5 +1,5 @@
--- What the words of yards say: of a yard of home 5, with 1 and 2 parked on semaphore 0 and 3 on semaphore 2; and of a pass,
--- of which only some fields are known.
+-- What the words of yards say: of a yard of home 5, with 1 and 2 parked on semaphore 0 and 3 on semaphore 2; and of a
+-- pass, of which only some fields are known.
 use Rattle.std.proofs.Common.{◌≡◌, ◌≢◌, ℕ, [], ◌∷◌, None, refl}
 use Rattle.keyed_lock.specs.declared.lock.LockPass.{LockPass}
 use Rattle.semaphore_park.specs.declared.yard.ParkYard.{ParkYard}

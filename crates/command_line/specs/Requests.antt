@@ -9,8 +9,8 @@ use Rattle.clap.specs.Simple.{on_top}
 use Rattle.command_line.specs.declared.numbers.TheConstants.{DEFAULT_GRAIN, DEFAULT_LIMIT, DEFAULT_WORKERS, GREATEST_GRAIN, GREATEST_LAYERS, GREATEST_LIMIT, GREATEST_TIMES, GREATEST_WORKERS}
 use Rattle.command_line.specs.Numbers.{number_in}
 
--- How often a graph is run: once, where nothing is said; so many times; or until a round passes on a line in which a word
--- occurs.
+-- How often a graph is run: once, where nothing is said; so many times; or until a round passes on a line in which a
+-- word occurs.
 pub data AskedRounds : Type 0 where
   once : AskedRounds
   times : ℕ → AskedRounds
@@ -22,11 +22,11 @@ most_rounds once = 1
 most_rounds (times n) = n
 most_rounds (until word) = GREATEST_TIMES
 
--- What is asked for: to run the graph in a file, with at most so many starts a round, by so many workers and so often, and
--- to write the journals in place of the reports or not; to run it so and count what each task did; to judge the journal in
--- another file, which may have so many starts; to find how the graph in a file can go wrong; to write the graph in a file
--- as a file of the newest version; to run a generated graph of so many layers, by so many workers; or to count the lines
--- of a text in which a word occurs, in chunks of so many lines, by so many workers.
+-- What is asked for: to run the graph in a file, with at most so many starts a round, by so many workers and so often,
+-- and to write the journals in place of the reports or not; to run it so and count what each task did; to judge the
+-- journal in another file, which may have so many starts; to find how the graph in a file can go wrong; to write the
+-- graph in a file as a file of the newest version; to run a generated graph of so many layers, by so many workers; or
+-- to count the lines of a text in which a word occurs, in chunks of so many lines, by so many workers.
 pub data Asked : Type 0 where
   run : List ℕ → ℕ → ℕ → AskedRounds → Bool → Asked
   profile : List ℕ → ℕ → ℕ → AskedRounds → Asked

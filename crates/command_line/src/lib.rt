@@ -2,9 +2,9 @@
 //!
 //! The first argument names a command of `flow`, and `clap` reads those after it, by one simple command for each of
 //! `flow`'s. The layer above sees what is asked for as plain data; which command lines ask for it is in
-//! `specs/Requests.antt`: the definitions whose names end in `_app`, as `run_app`, are the commands that `clap` reads by,
-//! and those whose names end in `_in`, as `run_in`, what their matches come to. The `RunOptions` of `run` and `profile`
-//! are read in one place.
+//! `specs/Requests.antt`: the definitions whose names end in `_app`, as `run_app`, are the commands that `clap` reads
+//! by, and those whose names end in `_in`, as `run_in`, what their matches come to. The `RunOptions` of `run` and
+//! `profile` are read in one place.
 #![tactic(auto)]
 
 mod check;

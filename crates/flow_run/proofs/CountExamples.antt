@@ -1,4 +1,5 @@
--- Counts of lines, on both sides of each line. Under the name `t` the text `ab`, `c` and `xb` is held, without a last line end.
+-- Counts of lines, on both sides of each line. Under the name `t` the text `ab`, `c` and `xb` is held, without a last
+-- line end.
 use Rattle.std.proofs.Common.{◌≡◌, ℕ, List, [], ◌∷◌, ◌++◌, length, Option, Some, None, inl, inr, refl, sym, ap, ◌∙◌, subst, arith, codes}
 use Rattle.std.specs.Prelude.{if◌then◌else◌, bytes_eq}
 use Rattle.std.specs.Fmt.{digits}

@@ -322,8 +322,8 @@ journal_behind_a_refused_graph refused (inr (inr behind)) =
     let both : ok_plan behind.plan ≡ Err NotJson = sym (subst (λ read. PlanText read behind.plan) (sym bytes) behind.has.stands) ∙ refused in
     absurd (cc)
 
--- It can't be judged without the graph, without the journal, where one of them is too long, by a graph that can't begin,
--- and where an entry breaks a rule.
+-- It can't be judged without the graph, without the journal, where one of them is too long, by a graph that can't
+-- begin, and where an entry breaks a rule.
 no_graph_to_judge_by : ¬ CanBeJudged texts (2 ∷ []) j 9
 no_graph_to_judge_by can = can.graph
 

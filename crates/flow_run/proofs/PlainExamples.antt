@@ -59,7 +59,8 @@ not_done_within_the_limit before after ends = by (ends.done runs_well tt)
 a_write_failed : (before after : Option (List ℕ)) → EndsPlainly reports_once once (at_a_time 4) before after ⊥ WriteFault
 a_write_failed before after = record { well = λ (same : WriteFault ≡ Done). absurd (cc); output = λ (same : WriteFault ≡ Done). absurd (cc); done = λ _ failed. absurd failed }
 
--- Reports of any rounds may be asked for, and a profile; not a journal, a check, or a source that doesn't specify its texts.
+-- Reports of any rounds may be asked for, and a profile; not a journal, a check, or a source that doesn't specify its
+-- texts.
 asks_for_rounds : (rounds : AskedRounds) → AsksRounds (Some (run g 4 1 rounds false)) g 4 1 rounds × AsksRounds (Some (profile g 4 1 rounds)) g 4 1 rounds
 asks_for_rounds rounds = (inl refl, inr refl)
 

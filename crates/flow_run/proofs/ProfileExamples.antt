@@ -1,5 +1,5 @@
--- What a profile of rounds is, how a call ends that is to write one, and what it writes, computed on a graph file `g` of one
--- byte.
+-- What a profile of rounds is, how a call ends that is to write one, and what it writes, computed on a graph file `g`
+-- of one byte.
 use Rattle.std.specs.Fmt.{digits}
 use Rattle.std.proofs.Common.{◌≡◌, ℕ, ◌+◌, List, [], ◌∷◌, ◌++◌, length, Option, Some, None, Bool, false, inl, inr, refl, sym, ap, ◌∙◌, arith, codes, subst}
 use Rattle.std.specs.Prelude.{◌⊎◌, bytes_eq, if◌then◌else◌, min, sum_by}

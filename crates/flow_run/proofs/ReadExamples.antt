@@ -1,5 +1,5 @@
--- What a call has done to the texts when it ends, and what it needs in order to do all that it is asked for, computed on a
--- source whose state is the names of its failed reads.
+-- What a call has done to the texts when it ends, and what it needs in order to do all that it is asked for, computed
+-- on a source whose state is the names of its failed reads.
 use Rattle.std.proofs.Common.{◌≡◌, ℕ, List, [], ◌∷◌, length, Option, Some, None, false, inl, inr, refl, arith, ap, Result, Ok, Err}
 use Rattle.std.specs.Prelude.{◌==◌, if◌then◌else◌}
 use Rattle.outside_io.specs.Sink.{SinkState}

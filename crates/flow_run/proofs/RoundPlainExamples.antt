@@ -83,8 +83,8 @@ word_in_the_first = refl
 word_in_the_second : plain_jobs (until (codes "a")) first ≡ first ∷ second ∷ []
 word_in_the_second = refl
 
--- The first line of both texts alone is passed on; so where it is given, each round is like the one before, and a word that
--- isn't in it ends none.
+-- The first line of both texts alone is passed on; so where it is given, each round is like the one before, and a word
+-- that isn't in it ends none.
 abbrev like_the_last : TextJob
 like_the_last = started (Head 1) 3 (codes "a1\n")
 

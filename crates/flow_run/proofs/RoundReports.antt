@@ -67,7 +67,8 @@ pub no_rounds_written : (state : SinkState) (bytes : List ℕ) → bytes ≡ [] 
 no_rounds_written state bytes none held = record { took = subst (Took state.taken state.taken) (sym none) (took_nothing state.taken state.taken refl); nothing_held = held; faults = refl }
 
 module _ {S : Type 0} (state : S → SinkState) (old : S) (text : List TextRun → List ℕ) (empty : text [] ≡ []) (runs : List TextRun) (flag : Bool) where
-  -- What a command has done that met want of memory before its first write. It says that all was written where there is nothing to write.
+  -- What a command has done that met want of memory before its first write. It says that all was written where there is
+  -- nothing to write.
   pub none_reported : (flag ≡ true → runs ≡ []) → (runs ≡ [] → flag ≡ true) → (state old).held_back ≡ [] → HasWritten state old old NoMemory (runs ≡ []) (text runs) flag
   none_reported none all held = record {
     front = record { lost = text runs; but = record { front = []; parts = refl; took = took_nothing (state old).taken (state old).taken refl } };

@@ -1,4 +1,5 @@
--- What the watchers of calls are told, on both sides of each line. Watchers are the numbers of spans that they were told.
+-- What the watchers of calls are told, on both sides of each line. Watchers are the numbers of spans that they were
+-- told.
 use Rattle.std.proofs.Common.{◌≡◌, ◌≢◌, ℕ, ◌+◌, Bool, List, [], ◌∷◌, Some, None, refl, ap, sym, subst, arith}
 use Rattle.std.specs.Prelude.{sum}
 use Rattle.command_line.specs.Requests.{AskedRounds, run as run_asked, profile as profile_asked, judge as judge_asked, check as check_asked, upgrade as upgrade_asked, generate as generate_asked, count as count_asked}

@@ -29,8 +29,8 @@ use Rattle.flow_run.specs.Counted.{CountEnds, count_text}
 abbrev pub IsAfterRun : Reason → Status → Type 0
 IsAfterRun why status = (status ≡ status_after why) ⊎ ((why ≡ reason.Fine) × (status ≡ WriteFault)) ⊎ (status ≡ NoMemory)
 
--- Rounds were run that are asked for, of which the first is of such a job: all of them, unless memory ran out. The status is
--- that of the last.
+-- Rounds were run that are asked for, of which the first is of such a job: all of them, unless memory ran out. The
+-- status is that of the last.
 pub record RanRounds (IsJob : TextJob → Type 0) (rounds : AskedRounds) (status : Status) (runs : List TextRun) : Type 0 where
   pub job : TextJob
   pub is : IsJob job
@@ -53,8 +53,8 @@ pub record RanProfile (IsJob : TextJob → Type 0) (rounds : AskedRounds) (statu
   pub counted : ((status ≡ NoMemory) × (concluded ≡ None)) ⊎ ((counts : GraphProfile) × (concluded ≡ Some (Profile counts)) × IsProfileOf (names_of ran.job) runs counts)
   pub none_asked : concluded ≢ None → runs ≡ [] → AreAllRounds text_job ran.job (round_rule rounds) []
 
--- How a call ends that is to write the profile of a file: before a run, for a reason that the status has, or after the rounds
--- that the file is asked for.
+-- How a call ends that is to write the profile of a file: before a run, for a reason that the status has, or after the
+-- rounds that the file is asked for.
 abbrev pub ProfileEnds : SourceTexts → List ℕ → ℕ → AskedRounds → Status → List TextRun → Option Conclusion → Type 0
 ProfileEnds held file limit rounds status runs concluded = StoppedBefore (StopsBefore held file) status ((runs ≡ []) × (concluded ≡ None)) ⊎ RanProfile (IsRequestedJob held file limit) rounds status runs concluded
 
@@ -62,8 +62,9 @@ ProfileEnds held file limit rounds status runs concluded = StoppedBefore (StopsB
 abbrev pub GenerateEnds : ℕ → Status → List TextRun → Type 0
 GenerateEnds layers status runs = ((status ≡ NoMemory) × (runs ≡ [])) ⊎ RanRounds (IsGeneratedJob layers) once status runs
 
--- How a call ends whose command line asks for this: for a run of a file, for its profile, for a judgement of a journal, for a
--- check of a graph, for an upgrade of its file, for a run of a generated graph, for a count of lines, or for nothing.
+-- How a call ends whose command line asks for this: for a run of a file, for its profile, for a judgement of a journal,
+-- for a check of a graph, for an upgrade of its file, for a run of a generated graph, for a count of lines, or for
+-- nothing.
 abbrev pub AskedEnds : SourceTexts → Option Asked → Status → List TextRun → Option Conclusion → Type 0
 AskedEnds held (Some (run file limit workers rounds journal)) status runs concluded = RunEnds held file limit rounds status runs × (concluded ≡ None)
 AskedEnds held (Some (profile file limit workers rounds)) status runs concluded = ProfileEnds held file limit rounds status runs concluded
@@ -79,8 +80,8 @@ abbrev pub CallEnds : SourceTexts → List (List ℕ) → Status → List TextRu
 CallEnds held arguments status runs concluded =
     AskedEnds held (asked_by arguments) status runs concluded ⊎ ((status ≡ NoMemory) × (runs ≡ []) × (concluded ≡ None))
 
--- what is written of the runs that are kept: their reports or journals, where a run is asked for; of a generated graph's run
--- its summary
+-- what is written of the runs that are kept: their reports or journals, where a run is asked for; of a generated
+-- graph's run its summary
 abbrev pub runs_text : Option Asked → List TextRun → List ℕ
 runs_text (Some (run file limit workers rounds journal)) runs = rounds_text rounds journal runs
 runs_text (Some (generate layers workers)) runs = summaries_text layers runs
@@ -99,8 +100,8 @@ conclusion_text (Some (WordLines lines)) = count_text lines
 abbrev pub output_of : List (List ℕ) → List TextRun → Option Conclusion → List ℕ
 output_of arguments runs conclusion = runs_text (asked_by arguments) runs ++ conclusion_text conclusion
 
--- What a command has done to the output when it ends, to which it was to write these bytes. Where it came to nothing the
--- output is as it was.
+-- What a command has done to the output when it ends, to which it was to write these bytes. Where it came to nothing
+-- the output is as it was.
 pub record HasWritten {S : Type 0} (state : S → SinkState) (old new : S) (status : Status) (Nothing : Type 0) (bytes : List ℕ) (written : Bool) : Type 0 where
   pub front : TookFront (state old).taken (state new).taken bytes
   pub whole : written ≡ true → Took (state old).taken (state new).taken bytes

@@ -7,8 +7,8 @@ use Rattle.flow_run.specs.Judgements.{CanBeJudged}
 use Rattle.flow_run.specs.PlanFiles.{HoldsPlan}
 use Rattle.flow_run.specs.Counted.{HoldsText}
 
--- What a command needs is at hand: the source specifies what it holds, and holds what that command needs. A generated graph
--- needs nothing.
+-- What a command needs is at hand: the source specifies what it holds, and holds what that command needs. A generated
+-- graph needs nothing.
 abbrev pub HoldsFor : SourceTexts → Asked → Type 0
 HoldsFor held (run file limit workers rounds journal) = IsSomeAnd held (λ text. CanBeRun text file)
 HoldsFor held (profile file limit workers rounds) = IsSomeAnd held (λ text. CanBeRun text file)

@@ -98,9 +98,9 @@ verdict_line Finished = codes "complete\n"
 verdict_line Legal = codes "legal\n"
 verdict_line (Breaks place why) = codes "breaks at " ++ decimal place ++ codes ": " ++ break_text why ++ codes "\n"
 
--- What a judgement needs is held, and the journal breaks no rule: the graph file has no more bytes than may be read, and
--- stands for a plan with a task to begin with, or without tasks; the journal file has no more bytes than may be read, and
--- is the text of a journal on which the verdict is no break.
+-- What a judgement needs is held, and the journal breaks no rule: the graph file has no more bytes than may be read,
+-- and stands for a plan with a task to begin with, or without tasks; the journal file has no more bytes than may be
+-- read, and is the text of a journal on which the verdict is no break.
 pub record CanBeJudged (text : List ℕ → Option (List ℕ)) (file name : List ℕ) (limit : ℕ) : Type 0 where
   pub plan : PlanRows
   pub journal : List Entry

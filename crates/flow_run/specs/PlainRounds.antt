@@ -13,8 +13,8 @@ ends_with once text = false
 ends_with (times n) text = false
 ends_with (until word) text = has_word word text
 
--- The jobs of so many rounds at most. Each after the first has what the round before passes on as its input, and there is none
--- after a round that passes on a text at which they end.
+-- The jobs of so many rounds at most. Each after the first has what the round before passes on as its input, and there
+-- is none after a round that passes on a text at which they end.
 abbrev pub jobs_by_turns : (List ℕ → Bool) → ℕ → TextJob → List TextJob
 jobs_by_turns ends zero job = []
 jobs_by_turns ends (suc n) job = job ∷ elim (ends (plain_feedback job)) [ true ↦ [] | false ↦ jobs_by_turns ends n (plain_next job) ]

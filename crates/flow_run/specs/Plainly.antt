@@ -22,8 +22,8 @@ IsReportedPlainly kept = IsPlainJob (job_of kept) → HasSameReport kept
 abbrev pub AsksRounds : Option Asked → List ℕ → ℕ → ℕ → AskedRounds → Type 0
 AsksRounds asked file limit workers rounds = (asked ≡ Some (run file limit workers rounds false)) ⊎ (asked ≡ Some (profile file limit workers rounds))
 
--- Such rounds are asked for; the source specifies its texts, and holds, within their limits, the file and the texts of this
--- job, whose plan can begin or has no tasks, and has no conditions.
+-- Such rounds are asked for; the source specifies its texts, and holds, within their limits, the file and the texts of
+-- this job, whose plan can begin or has no tasks, and has no conditions.
 pub record AsksPlainly (held : SourceTexts) (asked : Option Asked) (rounds : AskedRounds) (job : TextJob) : Type 0 where
   pub file : List ℕ
   pub limit : ℕ
@@ -34,15 +34,15 @@ pub record AsksPlainly (held : SourceTexts) (asked : Option Asked) (rounds : Ask
   pub requested : IsRequestedJob held file limit job
   pub plain : IsPlainJob job
 
--- What the output takes that is worked out by one thread: the reports of the rounds, or the table of their profile, which has
--- some number of spans.
+-- What the output takes that is worked out by one thread: the reports of the rounds, or the table of their profile,
+-- which has some number of spans.
 abbrev pub TookPlainly : Option Asked → TextJob → Option (List ℕ) → Option (List ℕ) → Type 0
 TookPlainly (Some (run file limit workers rounds false)) job before after = Took before after (plain_rounds rounds job)
 TookPlainly (Some (profile file limit workers rounds)) job before after = (spans : ℕ) × Took before after (profile_text (plain_rows rounds job) (names_of job) spans)
 TookPlainly asked job before after = Unit {0}
 
--- The call is done exactly where the values of each round by one thread run through, unless a read, a write or an allocation
--- fails; and when it is done the output has taken what one thread works out, and nothing else.
+-- The call is done exactly where the values of each round by one thread run through, unless a read, a write or an
+-- allocation fails; and when it is done the output has taken what one thread works out, and nothing else.
 pub record EndsPlainly (asked : Option Asked) (rounds : AskedRounds) (job : TextJob) (before after : Option (List ℕ)) (NothingFailed : Type 0) (status : Status) : Type 0 where
   pub well : status ≡ Done → RoundsRunWell rounds job
   pub output : status ≡ Done → TookPlainly asked job before after

@@ -1,4 +1,5 @@
--- Commands that need the plan of a graph file and run nothing: why they stop before it, what they need, and how they end.
+-- Commands that need the plan of a graph file and run nothing: why they stop before it, what they need, and how they
+-- end.
 use Rattle.std.specs.Prelude.{◌≡◌, ◌⊎◌, ◌≤◌, ℕ, List, length, Option, IsSomeAnd}
 use Rattle.graph_plans.specs.PlanRows.{PlanRows}
 use Rattle.graph_file.specs.PlanText.{PlanText}

@@ -10,8 +10,8 @@ use Rattle.flow_run.specs.Requests.{SourceTexts}
 abbrev pub FailsOnce : List (List ℕ) → List (List ℕ) → Type 0
 FailsOnce before after = (after ≡ before) ⊎ ((name : List ℕ) × (after ≡ before ++ name ∷ []))
 
--- The names whose reads have failed, before and after a call that ends with this status: with ReadFault one more, the one
--- that the status names; without memory one more at most; else no more.
+-- The names whose reads have failed, before and after a call that ends with this status: with ReadFault one more, the
+-- one that the status names; without memory one more at most; else no more.
 abbrev pub FailsWith : Status → List (List ℕ) → List (List ℕ) → Type 0
 FailsWith (ReadFault name) before after = after ≡ before ++ name ∷ []
 FailsWith NoMemory before after = FailsOnce before after

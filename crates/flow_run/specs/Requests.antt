@@ -107,8 +107,9 @@ IsRequestedJob held file limit (Graph work) = IsRequested held file limit work
 IsRequestedJob held file limit (Parts work) = ⊥
 IsRequestedJob held file limit (Pipe work) = ⊥
 
--- What the run of a file needs is held: the file has no more bytes than may be read, and stands for a plan each of whose graphs
--- has a task to begin with or none at all; and each text that the plan names is held, with no more bytes than may be read.
+-- What the run of a file needs is held: the file has no more bytes than may be read, and stands for a plan each of
+-- whose graphs has a task to begin with or none at all; and each text that the plan names is held, with no more bytes
+-- than may be read.
 pub record CanBeRun (text : List ℕ → Option (List ℕ)) (file : List ℕ) : Type 0 where
   pub plan : PlanRows
   pub graph : IsSomeAnd (text file) (λ bytes. (length bytes ≤ file_limit) × PlanText bytes plan)

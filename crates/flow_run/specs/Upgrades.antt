@@ -11,7 +11,8 @@ use Rattle.flow_run.specs.declared.conclusion.Conclusion.TheVariants as conclusi
 use Rattle.flow_run.specs.Requests.{SourceTexts, IsHeld, file_limit}
 use Rattle.flow_run.specs.PlanFiles.{StopsBeforePlan, IsAfterConclusion}
 
--- the text that is written for the plan for which the bytes held under the file's name stand; it stands for that plan too
+-- the text that is written for the plan for which the bytes held under the file's name stand; it stands for that plan
+-- too
 pub record IsUpgraded (held : SourceTexts) (file text : List ℕ) : Type 0 where
   pub bytes : List ℕ
   pub plan : PlanRows
@@ -31,8 +32,8 @@ pub record EndsUpgraded (held : SourceTexts) (file : List ℕ) (status : Status)
 abbrev pub UpgradeEnds : SourceTexts → List ℕ → Status → Option Conclusion → Type 0
 UpgradeEnds held file status concluded = StoppedBefore (StopsBeforePlan held file) status (concluded ≡ None) ⊎ EndsUpgraded held file status concluded
 
--- The output took a graph file for the plan for which the bytes held under the file's name stand. So what is a run of the
--- one file, over some texts and with a limit, is a run of the other.
+-- The output took a graph file for the plan for which the bytes held under the file's name stand. So what is a run of
+-- the one file, over some texts and with a limit, is a run of the other.
 pub record TakesSamePlan (held : SourceTexts) (file : List ℕ) (before after : Option (List ℕ)) : Type 0 where
   pub bytes : List ℕ
   pub text : List ℕ

@@ -11,8 +11,8 @@ asked_workers (Some (profile file limit workers rounds)) = workers
 asked_workers (Some (generate layers workers)) = workers
 asked_workers asked = 0
 
--- Watchers, before and after rounds by so many workers. The first of them, one a worker, were together told as many spans as the
--- rounds have, with the runs inside them, where none was given up. The others are as they were.
+-- Watchers, before and after rounds by so many workers. The first of them, one a worker, were together told as many
+-- spans as the rounds have, with the runs inside them, where none was given up. The others are as they were.
 pub record HaveSeen {X : Type 0} (told : X → ℕ) (workers : ℕ) (NoneGivenUp : Type 0) (runs : List TextRun) (old new : List X) : Type 0 where
   pub seen : NoneGivenUp → take workers old ≢ [] → AreToldRounds told runs (take workers old) (take workers new)
   pub others : drop workers new ≡ drop workers old

@@ -11,7 +11,8 @@ use Rattle.graph_drafts.specs.Fields.{allowed, graph_spot, needed, only, sem_spo
 use Rattle.graph_drafts.specs.OpRows.{FileOpRow, op_in, op_rows}
 use Rattle.graph_drafts.specs.Steps.{◌>>=◌, walk}
 
--- a task's name, and the names that it has of others: `to` are the tasks to which its edges lead, the last two semaphores
+-- a task's name, and the names that it has of others: `to` are the tasks to which its edges lead, the last two
+-- semaphores
 pub record TaskNames : Type 0 where
   pub name : List ℕ
   pub to : List (List ℕ)
@@ -23,8 +24,8 @@ pub record TaskText : Type 0 where
   pub names : TaskNames
   pub op : FileOpRow
 
--- A graph of a file of this version: its name, which the top graph doesn't have, its semaphores' names and maxima, and its
--- tasks in file order.
+-- A graph of a file of this version: its name, which the top graph doesn't have, its semaphores' names and maxima, and
+-- its tasks in file order.
 pub record DraftRows : Type 0 where
   pub scope : Scope
   pub version : ℕ

@@ -1,10 +1,10 @@
 //! The graphs of a file as its JSON has them, before the names in them are looked up.
 //!
-//! `read_file` reads the fields of a file in their order, and gives its graphs, or the first field that refuses. The layer
-//! above knows them as rows (`draft_rows`, `file_rows` in `specs/inside/Reading.antt`), and what was read by `file_in` in
-//! `specs/FileText.antt`. `Steps` says what becomes of a walk where a step refuses, `Contents` what fields may hold,
-//! `Fields` how an object's fields are found and refused, and `OpRows` has a row for each operation; `inside/Reading` says
-//! what a step of the reader answers, which may also find no memory.
+//! `read_file` reads the fields of a file in their order, and gives its graphs, or the first field that refuses. The
+//! layer above knows them as rows (`draft_rows`, `file_rows` in `specs/inside/Reading.antt`), and what was read by
+//! `file_in` in `specs/FileText.antt`. `Steps` says what becomes of a walk where a step refuses, `Contents` what fields
+//! may hold, `Fields` how an object's fields are found and refused, and `OpRows` has a row for each operation;
+//! `inside/Reading` says what a step of the reader answers, which may also find no memory.
 #![tactic(auto)]
 
 mod bad_fields;

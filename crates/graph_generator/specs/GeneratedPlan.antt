@@ -1,5 +1,5 @@
--- Plans of any size, made from a number of layers: ten tasks a layer, of which each behind the first layer takes what two
--- of the layer before hand it; then a task that tallies the last layer, a loop, and a pipeline.
+-- Plans of any size, made from a number of layers: ten tasks a layer, of which each behind the first layer takes what
+-- two of the layer before hand it; then a task that tallies the last layer, a loop, and a pipeline.
 use Rattle.std.specs.Prelude.{ℕ, ◌+◌, ◌-◌, ◌*◌, ◌/◌, ◌%◌, ◌==◌, Bool, true, false, ◌||◌, List, [], ◌∷◌, ◌++◌, map, filter, codes, decimal, if◌then◌else◌}
 use Rattle.std.specs.List.{flat_map, range_with_len}
 use Rattle.task_graph.specs.declared.net.EdgeRow.{EdgeRow}
@@ -20,7 +20,8 @@ max_layers = 900
 
 -- ---- the layers: task t is number t % 10 of layer t / 10
 
--- The first 200 draws are the text's. Then each task takes two, in the order of tasks; those of the first layer take none.
+-- The first 200 draws are the text's. Then each task takes two, in the order of tasks; those of the first layer take
+-- none.
 
 -- the draw for what a task does
 abbrev pub op_draw : ℕ → ℕ → ℕ

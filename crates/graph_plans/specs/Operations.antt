@@ -66,8 +66,8 @@ IsLineOp (LineText op) = IsTextOp op
 IsLineOp Number = Unit {0}
 IsLineOp Stamp = Unit {0}
 
--- Each pipe has an operation, which writes places only where the pipe is serial; a part has a line at least, and the rows
--- that defer tokens keep their limits.
+-- Each pipe has an operation, which writes places only where the pipe is serial; a part has a line at least, and the
+-- rows that defer tokens keep their limits.
 pub record IsPipePlan (plan : PipePlan) : Type 0 where
   pub op_count : length plan.ops ≡ length plan.spec.serial
   pub ops : All IsLineOp plan.ops

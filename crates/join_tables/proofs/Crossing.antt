@@ -1,5 +1,5 @@
--- The turns of a table, its keeper, batches and rests may go to other threads, and a table may be shared by them: of the
--- types that they are made of, one after the other, since a search for all at once gives up.
+-- The turns of a table, its keeper, batches and rests may go to other threads, and a table may be shared by them: of
+-- the types that they are made of, one after the other, since a search for all at once gives up.
 use denote.RattleType.{RattleType}
 use denote.Param.Send.{IsSend, IsSync, sendable}
 use Rattle.std.proofs.Crossing.{crosses, frees, send}

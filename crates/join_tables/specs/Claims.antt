@@ -49,8 +49,8 @@ refuse_one s u = record { back = u.back; to_credit = u.to_credit; credited = u.c
 abbrev pub with_units : {V : Type 0} → RunningState V → StartUnits → RunningState V → RunningState V
 with_units r units q = running_state r.table r.task r.cause r.place r.ins units q.found
 
--- A claim is granted where its step found more in the credit word than was there at first. Else it is refused, and then a
--- legal journal with this start at its place allows a Fault of it for an over-release of the semaphore.
+-- A claim is granted where its step found more in the credit word than was there at first. Else it is refused, and then
+-- a legal journal with this start at its place allows a Fault of it for an over-release of the semaphore.
 abbrev pub ClaimsUnit : {V : Type 0} → NetRows → ℕ → RunningState V → ℕ → Claim V → Type 0
 ClaimsUnit net limit r s (Granted q) = (q ≡ with_units r (grant_one s r.units) q) × FindsOne (λ n. first_credit < n) r.found q.found
 ClaimsUnit net limit r s (Refused q) = (q ≡ with_units r (refuse_one s r.units) q) × FindsOne (λ n. n ≤ first_credit) r.found q.found × AllowsOver net limit s r.place r.task

@@ -18,14 +18,15 @@ abbrev pub CountsEdge : Bool → List ℕ → List ℕ → Type 0
 CountsEdge true before after = FindsOne (λ n. n ≡ 1) before after
 CountsEdge false before after = FindsOne (λ n. n ≢ 1) before after
 
--- A token taken from an edge found how many were there. Where the edge is strong and had another, it was counted again, and
--- that count found how many were left in the join word: one where that released the task again.
+-- A token taken from an edge found how many were there. Where the edge is strong and had another, it was counted again,
+-- and that count found how many were left in the join word: one where that released the task again.
 abbrev pub TakesToken : Cause → Bool → List ℕ → List ℕ → Type 0
 TakesToken cause true before after = FindsTwo (λ k n. (cause ≡ Strong) × (1 < k) × (n ≡ 1)) before after
 TakesToken cause false before after = FindsOne (λ k. cause ≡ Strong → k ≤ 1) before after ⊎ FindsTwo (λ k n. (cause ≡ Strong) × (1 < k) × (n ≢ 1)) before after
 
--- A token given to an edge found how many were there. That of a weak edge releases its target. That of a strong edge was
--- counted where there was none, and that count found how many were left in the join word: one where that released the target.
+-- A token given to an edge found how many were there. That of a weak edge releases its target. That of a strong edge
+-- was counted where there was none, and that count found how many were left in the join word: one where that released
+-- the target.
 abbrev pub GivesToken : Bool → Bool → List ℕ → List ℕ → Type 0
 GivesToken true true before after = FindsOne (λ k. Unit {0}) before after
 GivesToken true false before after = ⊥

@@ -33,7 +33,7 @@ pub record AreEndValues {V : Type 0} (fates : List (Fate V)) (journal : List Ent
   pub places : map (λ (r : RecordedValue V). r.place) values ≡ end_places 0 journal
   pub told : All (Contains (values_told fates)) values
 
--- the journal is legal as far as the net decides, its starts find what they may, and it is complete, of each net and limit
--- of which these fates tell a run
+-- the journal is legal as far as the net decides, its starts find what they may, and it is complete, of each net and
+-- limit of which these fates tell a run
 abbrev pub IsRunTold : {V : Type 0} → List (Fate V) → List Entry → Type 0
 IsRunTold fates journal = (net : NetRows) (limit : ℕ) → TellsRun net limit (entries_told fates) → ShapeLegal net limit journal × MeetsDataRule net journal × Complete net limit journal

@@ -19,8 +19,8 @@ use Rattle.join_tables.specs.declared.keeper.Recorded.{Recorded}
 use Rattle.join_tables.specs.declared.keeper.Remaining.{Remaining}
 use Rattle.join_tables.specs.declared.keeper.Remaining.TheVariants.{More, All as AllTaken}
 
--- a keeper's table, the fates of the turns that it took in, in that order, and how many live turns it found each time that it
--- took one off, the newest first
+-- a keeper's table, the fates of the turns that it took in, in that order, and how many live turns it found each time
+-- that it took one off, the newest first
 pub record KeeperState (V : Type 0) : Type 0 where
   pub table : TableId
   pub fates : List (Fate V)
@@ -65,8 +65,8 @@ pub record Merges (entries : List Recorded) (journal : List Entry) : Type 0 wher
   pub stand : AllByRecursion (λ (r : Recorded). slice_get journal r.place ≡ Some r.entry) entries
   pub each : (m : ℕ) → m < length journal → count_by (λ (r : Recorded). r.place == m) entries ≡ 1
 
--- These entries are those of a finished run: they are one journal that is legal as far as the net decides, whose starts find
--- what they may, and complete.
+-- These entries are those of a finished run: they are one journal that is legal as far as the net decides, whose starts
+-- find what they may, and complete.
 pub record TellsRun (net : NetRows) (limit : ℕ) (entries : List Recorded) : Type 0 where
   pub journal : List Entry
   pub merges : Merges entries journal

@@ -5,10 +5,10 @@ use Rattle.journal_rules.specs.declared.entry.Cause.{Cause}
 use Rattle.join_tables.specs.declared.rests.Parked.{Parked}
 use Rattle.join_tables.specs.declared.fates.Dropping.{Dropping}
 
--- A rest: its table where it has a turn, how many turns it has room for, its turns in the order in which it took them in,
--- and the Drops that it drew. Where it is known to be alone: whether the journal has a Fault, and which semaphores have no
--- unit. Then the numbers that the steps of its seat found, the newest first. Its seat is that of the first turn that it took
--- in, while it has a turn.
+-- A rest: its table where it has a turn, how many turns it has room for, its turns in the order in which it took them
+-- in, and the Drops that it drew. Where it is known to be alone: whether the journal has a Fault, and which semaphores
+-- have no unit. Then the numbers that the steps of its seat found, the newest first. Its seat is that of the first turn
+-- that it took in, while it has a turn.
 pub record RestState : Type 0 where
   pub table : Option TableId
   pub room : ℕ

@@ -47,8 +47,8 @@ pub record HandsOut (n : TableId) (r s : RestState) (turn : TurnState) : Type 0 
   pub left : s ≡ rest_with (table_left n s.turns) r.room s.turns [] None [] (found_left s.turns r.found)
   pub table : IsOfTable n s.table
 
--- A rest is alone where its load of the live word finds the number of its turns, and then says whether its load of the halt
--- mark finds it set; else it is Busy, with the number that it found.
+-- A rest is alone where its load of the live word finds the number of its turns, and then says whether its load of the
+-- halt mark finds it set; else it is Busy, with the number that it found.
 abbrev pub ChecksRest : {V : Type 0} → TableId → RestState → Checked V → Type 0
 ChecksRest n r (Busy s live) = (s ≡ rest_with (Some n) r.room r.turns r.dropped None [] (live ∷ r.found)) × (live ≢ length r.turns)
 ChecksRest n r (Alone s faulted) = (s ≡ rest_with (Some n) r.room r.turns r.dropped (Some faulted) [] s.found) × FindsTwo (λ live h. (live ≡ length r.turns) × (IsTrue faulted ↔ (h ≢ 0))) r.found s.found

@@ -1,5 +1,5 @@
--- The states of a table and of its turns. Each turn but a release that is not set again, and one that owes nothing, has the
--- numbers that its steps found, the newest first.
+-- The states of a table and of its turns. Each turn but a release that is not set again, and one that owes nothing, has
+-- the numbers that its steps found, the newest first.
 use Rattle.std.specs.Prelude.{ℕ, Bool, List, [], Option, None}
 use Rattle.task_graph.specs.NetRows.{NetRows}
 use Rattle.atomic_table.specs.Seated.{TableId}
@@ -66,8 +66,8 @@ pub record RunningState (V : Type 0) : Type 0 where
   pub units : StartUnits
   pub found : List ℕ
 
--- a run that ended, the edges that it has still to give, the semaphores of the units that it has to give back, and whether
--- its value goes into their slots bare
+-- a run that ended, the edges that it has still to give, the semaphores of the units that it has to give back, and
+-- whether its value goes into their slots bare
 pub record OwingState (V : Type 0) : Type 0 where
   pub table : TableId
   pub ended : EndedStart V

@@ -30,8 +30,8 @@ CollectsFrom c (e ∷ []) (More d) = ⊥
 CollectsFrom c (e ∷ f ∷ left) (More d) = (d ≡ collecting_state c.table c.task c.cause (f ∷ left) d.found) × TakesToken c.cause false c.found d.found
 CollectsFrom c (e ∷ f ∷ left) _ = ⊥
 
--- A turn is refused for a Fault of the run where its load finds the halt mark set. Where it finds 0, the turn may start its
--- task if the number that it then draws is below the limit, and is refused at the limit else.
+-- A turn is refused for a Fault of the run where its load finds the halt mark set. Where it finds 0, the turn may start
+-- its task if the number that it then draws is below the limit, and is refused at the limit else.
 abbrev pub Admits : {V : Type 0} → ℕ → TurnState → Admitted V → Type 0
 Admits limit t (Go ticket) = (ticket ≡ admitted_state t.table t.task t.cause t.held ticket.found) × FindsTwo (λ h n. (h ≡ 0) × (n < limit)) t.found ticket.found
 Admits limit t (Over turn) = (turn ≡ turn_with t.table t.task t.cause (Some Limit) t.held turn.found) × FindsTwo (λ h n. (h ≡ 0) × (limit ≤ n)) t.found turn.found
@@ -49,9 +49,10 @@ cause_of false e = Strong
 abbrev pub release_cause : NetRows → ℕ → Cause
 release_cause net e = cause_of (is_weak net e) e
 
--- What giving the next edge that is owed leads to: Released where its token released its target, else Next. A token of a weak
--- edge always releases its target; one of a strong edge does where the edge was counted and that count found one left in the
--- join word. Finished is returned where no edge is left: the turn is then spent, with this end for its fate.
+-- What giving the next edge that is owed leads to: Released where its token released its target, else Next. A token of
+-- a weak edge always releases its target; one of a strong edge does where the edge was counted and that count found one
+-- left in the join word. Finished is returned where no edge is left: the turn is then spent, with this end for its
+-- fate.
 abbrev pub GivesNext : {V : Type 0} → NetRows → OwingState V → List ℕ → Gave V → Type 0
 GivesNext net o [] (Finished spent) = spent ≡ spent_state o.table (Ended o.ended)
 GivesNext net o [] _ = ⊥

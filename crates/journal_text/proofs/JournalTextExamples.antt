@@ -268,8 +268,8 @@ no_text_of_another is = let same : [] ≡ two_entries = one_journal [] two_entri
 no_third_line : ¬ BeginsWithText (codes "flow journal 2\nfault 1 inner") 2
 no_third_line = no_end.bad
 
--- Each part of an entry is asked for: the edge of a cause, each part that is found, and why it faulted or was dropped, by
--- its version.
+-- Each part of an entry is asked for: the edge of a cause, each part that is found, and why it faulted or was dropped,
+-- by its version.
 cause_of_a_start : ¬ HasLine Two (Start 0 (Weak 4294967296) [])
 cause_of_a_start has = let fits = has.1 in omega arith
 

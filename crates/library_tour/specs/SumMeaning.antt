@@ -27,7 +27,8 @@ number_of nothing = 0
 abbrev pub sum_with : ℕ → List (InputValue ℕ) → ℕ
 sum_with number found = min (number + sum_by number_of found) 18446744073709551615
 
--- A task comes to its own number plus those that it finds, and all its successors go on, or none if it is one that chooses.
+-- A task comes to its own number plus those that it finds, and all its successors go on, or none if it is one that
+-- chooses.
 abbrev pub SumAnswers : SumWork → ℕ → List (InputValue ℕ) → Done SumWork ℕ → Type 0
 SumAnswers work task found (Value n answer) =
     (n ≡ sum_with (number_at work.numbers task) found) × IfSome (slice_get work.net.tasks task) (λ (row : TaskRow). FitsShape row.shape answer)

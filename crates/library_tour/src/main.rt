@@ -1,8 +1,8 @@
 //! A tour of the library: a job of one's own, run by four threads.
 //!
-//! `sum_job.rt` has the job, whose meaning is in `specs/SumMeaning.antt`; `crew.rt` has it run by a crew. `squares.rt` has
-//! a loop over numbers as a job of chunks, which is run by one thread. The program prints with which number each task
-//! ended, and the sum of ten squares. It is no part of the product.
+//! `sum_job.rt` has the job, whose meaning is in `specs/SumMeaning.antt`; `crew.rt` has it run by a crew. `squares.rt`
+//! has a loop over numbers as a job of chunks, which is run by one thread. The program prints with which number each
+//! task ended, and the sum of ten squares. It is no part of the product.
 #![tactic(auto)]
 
 mod crew;

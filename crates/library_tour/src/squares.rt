@@ -43,8 +43,8 @@ impl Fold for Squares {
     ghost lawful = { squaring_lawful };
 }
 
-/// The squares of the numbers below `count`, added up by a job with a task for `grain` numbers each. `None`: an allocation
-/// failed, there would be no number in a chunk or more than 65,536 chunks, or the run was cut short.
+/// The squares of the numbers below `count`, added up by a job with a task for `grain` numbers each. `None`: an
+/// allocation failed, there would be no number in a chunk or more than 65,536 chunks, or the run was cut short.
 pub fn sum_of_squares<R: Wait>(rt: &R, alloc: Global, count: u64, grain: u64) -> Option<u64>
     ensures { IfSome result (λ sum. sum ≡ plain_fold squaring (squares count) count) }
 {

@@ -60,7 +60,8 @@ stuck = refl
 fine : unfaulted 10 (Start 4 Source [] ∷ End 0 [] false ∷ []) ≡ Fine
 fine = refl
 
--- A Fault is told with its task alone, also beside a run; one that tells of that run as the run's reason, behind the task.
+-- A Fault is told with its task alone, also beside a run; one that tells of that run as the run's reason, behind the
+-- task.
 own_fault : faulted 4 (Long 9) (Some (Limit [] 3)) ≡ Fault (4 ∷ []) (Long 9)
 own_fault = refl
 
@@ -100,8 +101,8 @@ module _ {J V : Type 0} (meaning : Meaning J V) (run : FrameRun-F J V Reason (�
   own_limit : reason_step meaning (record run { journal = Drop 3 Strong AtLimit ∷ [] }) ≡ Limit [] (meaning.limit (arc_value run.job))
   own_limit = refl
 
--- The reason of a run with runs inside, each of which is looked at in turn. Runs hold their inner runs in vectors: of none
--- or one, wherever they stand in memory.
+-- The reason of a run with runs inside, each of which is looked at in turn. Runs hold their inner runs in vectors: of
+-- none or one, wherever they stand in memory.
 module _ (m : Meaning ℕ ℕ) (ptr : Ptr) (alloc : Global)
     (ok_none : ok-type (Unit {0}) Global ptr 0 0 alloc []) (small_none : small-type (Unit {0}) Global ptr 0 0 alloc [] ok_none)
     (ok_one : ok-type (Unit {0}) Global ptr 1 1 alloc (tt ∷ [])) (small_one : small-type (Unit {0}) Global ptr 1 1 alloc (tt ∷ []) ok_one)
@@ -149,7 +150,8 @@ module _ (m : Meaning ℕ ℕ) (ptr : Ptr) (alloc : Global)
     run_at_another_place : run_reason m (around 1 faulted_within 0 (alone 3 two_faults)) ≡ Fault (7 ∷ []) Inner
     run_at_another_place = reason_around 1 0 (alone 3 two_faults) (Fault (7 ∷ []) (Long 9)) fault_alone
 
-    -- The starts and the spans of the runs inside, at each depth: those of each journal, with those of the rows beside it.
+    -- The starts and the spans of the runs inside, at each depth: those of each journal, with those of the rows beside
+    -- it.
     starts_of_a_row_alone : (place : ℕ) → starts_of_row (InnerRow' place (alone 3 two_faults)) ≡ 2
     unfolding out-FrameRun out shown-the_row-InnerRow-0 shown out-InnerRow
     starts_of_a_row_alone place = fold_out-InnerRow ℕ ℕ ℕ ℕ starts_step row_number (InnerRow' place (alone 3 two_faults)) ∙ fold_out-FrameRun ℕ ℕ ℕ ℕ starts_step row_number (alone 3 two_faults)

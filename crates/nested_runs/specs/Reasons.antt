@@ -16,7 +16,8 @@ use Rattle.nested_runs.specs.declared.faults.Faulted.{Faulted}
 use Rattle.nested_runs.specs.declared.reasons.Reason.{Reason}
 use Rattle.nested_runs.specs.declared.reasons.Reason.TheVariants.{Fine, Fault, Limit, Stuck}
 
--- the first Fault among entries of which the first has this index: its index, that of the start which it closes, and why
+-- the first Fault among entries of which the first has this index: its index, that of the start which it closes, and
+-- why
 abbrev pub first_fault_from : ℕ → List Entry → Option Faulted
 first_fault_from n [] = None
 first_fault_from n (Start task cause ins ∷ rest) = first_fault_from (suc n) rest

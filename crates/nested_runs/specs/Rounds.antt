@@ -40,8 +40,8 @@ last_run runs = slice_get runs (length runs - 1)
 abbrev pub LastWasCut : {J V : Type 0} → List (FrameRun J V) → Type 0
 LastWasCut runs = IsSomeAnd (last_run runs) (λ run. ¬ IsFine (journal_of run))
 
--- These are all rounds of a job by a rule: there are as many as there may be, or the rule ends them here, or something was
--- cut short in the last.
+-- These are all rounds of a job by a rule: there are as many as there may be, or the rule ends them here, or something
+-- was cut short in the last.
 pub record AreAllRounds {J V : Type 0} (meaning : Meaning J V) (job : J) (rule : RoundRule J V) (runs : List (FrameRun J V)) : Type 0 where
   pub first : AreFirstRounds meaning job rule runs
   pub over : (length runs ≡ rule.most) ⊎ (rule.ends runs ≡ true) ⊎ LastWasCut runs

@@ -1,4 +1,5 @@
--- A legal journal of a pipeline's cells: at each of its entries the starts before it met what the order has at their turns.
+-- A legal journal of a pipeline's cells: at each of its entries the starts before it met what the order has at their
+-- turns.
 use Rattle.std.proofs.Common.{◌≡◌, ℕ, ◌<◌, ◌≤◌, Bool, true, cond, eqb, List, [], ◌∷◌, ◌++◌, length, Some, sym, refl, ap, subst, ◌∙◌, arith}
 use Rattle.std.specs.Prelude.{count_by, slice_get, ◌==◌}
 use Rattle.std.proofs.lemmas.Bool.Decides.{nat_tests}

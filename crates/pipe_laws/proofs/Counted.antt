@@ -1,4 +1,5 @@
--- How many starts a complete run has in which nothing was cut short: one for each token at each pipe, and one at the end.
+-- How many starts a complete run has in which nothing was cut short: one for each token at each pipe, and one at the
+-- end.
 use Rattle.std.proofs.Common.{◌≡◌, ◌≢◌, ◌⊎◌, inl, inr, ℕ, zero, suc, ◌+◌, ◌*◌, ◌-◌, ◌%◌, ◌/◌, ◌<◌, ◌≤◌, Bool, true, false, cond, eqb, List, [], ◌∷◌, ◌++◌, length, filter, Option, Some, None, sym, refl, ap, subst, ◌∙◌, arith}
 use Rattle.std.specs.Prelude.{count_by, slice_get, ◌==◌}
 use Rattle.std.proofs.Math.Nat.{mod-add-div', mod-lt}

@@ -1,5 +1,5 @@
--- What it is that pipelines inside a run keep their order, on two lines with a serial and a parallel pipe: token 1 passes
--- before token 0.
+-- What it is that pipelines inside a run keep their order, on two lines with a serial and a parallel pipe: token 1
+-- passes before token 0.
 use Rattle.std.proofs.Common.{◌≡◌, ℕ, true, false, List, [], ◌∷◌, Option, Some, None, refl, sym, ap, subst, ◌∙◌, arith, codes}
 use Rattle.std.specs.Fmt.{digits}
 use Rattle.std.specs.Option.{option_and_then}

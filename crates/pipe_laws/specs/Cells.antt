@@ -7,9 +7,9 @@ use Rattle.pipe_lines.specs.DeferRows.{token_limit}
 use Rattle.text_tasks.specs.Cells.{Pipeline, cell_task, edges_for, meets, next_place, pipe_input, pipeline_net}
 use Rattle.run_laws.specs.OneThreadValue.{TaskEnd, OneAnswer}
 
--- The tasks answer as cells do: a value has the token that its cell met, and in the first pipe its place; an end signals
--- edges for a token alone; for a token that never passes there is no answer. What else a value is, and when a cell
--- faults besides, is free.
+-- The tasks answer as cells do: a value has the token that its cell met, and in the first pipe its place; an end
+-- signals edges for a token alone; for a token that never passes there is no answer. What else a value is, and when a
+-- cell faults besides, is free.
 pub record AreCells {V : Type 0} (pipeline : Pipeline V) (one : OneAnswer V) : Type 0 where
   pub few : length pipeline.order.passed ≤ token_limit
   pub place : (l : ℕ) (found : List (InputValue V)) (end : TaskEnd V) → l < pipeline.lines → one (cell_task pipeline l 0) found ≡ Some end

@@ -28,8 +28,8 @@ LinesTakeTurns {J} {V} meaning run =
     (pipeline : Pipeline V) (one : OneAnswer V) → IsPipeRun meaning run pipeline one
     → (l p : ℕ) → l < pipeline.lines → p < length pipeline.serials → TakesTurns pipeline (values_of run) l p (journal_of run)
 
--- No token is left. Each serial pipe starts all of them in their order, and each pipe those and no others. There is a start
--- for each of them at each pipe, and one at the end.
+-- No token is left. Each serial pipe starts all of them in their order, and each pipe those and no others. There is a
+-- start for each of them at each pipe, and one at the end.
 pub record StartsAll {J V : Type 0} (run : FrameRun J V) (pipeline : Pipeline V) : Type 0 where
   pub none_left : pipeline.order.unmet ≡ None
   pub in_order : (p : ℕ) → slice_get pipeline.serials p ≡ Some true → tokens_started pipeline (values_of run) p (journal_of run) ≡ pipeline.order.passed

@@ -17,8 +17,8 @@ abbrev pub run_at : {J V : Type 0} → FrameRun J V → List ℕ → Option (Fra
 run_at run [] = Some run
 run_at run (n ∷ path) = option_and_then (λ inner. run_at inner path) (inner_at run n)
 
--- Each serial pipe starts the tokens in the order in which they pass, and at each pipe the lines take turns with the places of
--- that order; where nothing was cut short all tokens pass all pipes.
+-- Each serial pipe starts the tokens in the order in which they pass, and at each pipe the lines take turns with the
+-- places of that order; where nothing was cut short all tokens pass all pipes.
 pub record StartsInOrder (work : PipeWork) (run : FrameRun TextJob Item) : Type 0 where
   pub serial : (p : ℕ) → slice_get work.spec.serial p ≡ Some true → IsInOrder (pipeline_of work) (values_of run) p (journal_of run)
   pub turns : (l p : ℕ) → l < work.spec.lines → p < length work.spec.serial → TakesTurns (pipeline_of work) (values_of run) l p (journal_of run)

@@ -57,7 +57,8 @@ pub record IsInOrder {V : Type 0} (pipeline : Pipeline V) (values : List (ValueR
   pub each : EachAfter (MeetsAtTurn pipeline values p (in_pipe pipeline p) (λ n. n)) journal
   pub tokens : tokens_started pipeline values p journal ≡ take (count_by (starts_one_of (in_pipe pipeline p)) journal) pipeline.order.passed
 
--- The k-th start of line l at pipe p meets what the order has at place k * lines + l: line after line has the next place.
+-- The k-th start of line l at pipe p meets what the order has at place k * lines + l: line after line has the next
+-- place.
 abbrev pub TakesTurns : {V : Type 0} → Pipeline V → List (ValueRow V) → ℕ → ℕ → List Entry → Type 0
 TakesTurns pipeline values l p journal = EachAfter (MeetsAtTurn pipeline values p (λ t. t == cell_task pipeline l p) (λ k. k * pipeline.lines + l)) journal
 

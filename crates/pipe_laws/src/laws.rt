@@ -10,9 +10,9 @@ ghost use Rattle.pipe_laws.specs.TextPipes.{PipesInOrder};
 use run_frame::{FrameRun, Job};
 use text_tasks::TextJob;
 
-/// In a legal run of a pipeline the n-th start of each serial pipe meets what the order of tokens has at place n. So the
-/// tokens that the pipe starts are the first ones of the order, in the order of the journal; the start that meets the
-/// end, or a token that never passes, comes after them.
+/// In a legal run of a pipeline the n-th start of each serial pipe meets what the order of tokens has at place n. So
+/// the tokens that the pipe starts are the first ones of the order, in the order of the journal; the start that meets
+/// the end, or a token that never passes, comes after them.
 pub fn pipes_keep_order<J: Job>(run: &FrameRun<J>)
     ensures { PipesKeepOrder J.meaning run.now }
 {}

@@ -49,7 +49,8 @@ impl Gate {
         })
     }
 
-    /// Lets the next token pass, if one does. It takes no memory. After Stop or Unmet each further call returns the same.
+    /// Lets the next token pass, if one does. It takes no memory. After Stop or Unmet each further call returns the
+    /// same.
     pub fn pass(&mut self) -> Passed
         ensures answer { result ≡ passed_at self.old.order self.old.place }
         ensures after { self.new ≡ after_pass self.old }

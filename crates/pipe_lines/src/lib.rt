@@ -1,9 +1,9 @@
-//! Pipelines: tokens go through a row of pipes over several lines. A serial pipe takes one token at a time and in order,
-//! a parallel pipe any, and a token may be deferred until others have passed.
+//! Pipelines: tokens go through a row of pipes over several lines. A serial pipe takes one token at a time and in
+//! order, a parallel pipe any, and a token may be deferred until others have passed.
 //!
 //! The layer above sees the net of a pipeline as a function of its lines and pipes, `pipe_net` in `specs/PipeNet.antt`,
-//! and the order in which tokens pass the first pipe as a function of their number and of what defers them, `pass_order`
-//! in `specs/PassOrder.antt`. That a run of the net keeps this order is another crate's affair.
+//! and the order in which tokens pass the first pipe as a function of their number and of what defers them,
+//! `pass_order` in `specs/PassOrder.antt`. That a run of the net keeps this order is another crate's affair.
 #![tactic(auto)]
 
 mod deferral;

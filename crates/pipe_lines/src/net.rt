@@ -10,11 +10,11 @@ use outside_io::{List, NoMemory};
 use std::alloc::Global;
 use task_graph::{Net, NetBuilder, Shape};
 
-/// The net of a pipeline: a plain task for each cell, which is a line and a pipe; an edge from each cell to the next one
-/// of its line, round; and one from each cell of a serial pipe to that of the next line, round.
+/// The net of a pipeline: a plain task for each cell, which is a line and a pipe; an edge from each cell to the next
+/// one of its line, round; and one from each cell of a serial pipe to that of the next line, round.
 ///
-/// An edge into the first pipe begins with a token, and so does the edge of a serial pipe into the first line. So of each
-/// line, and of each serial pipe, one cell at most works at a time.
+/// An edge into the first pipe begins with a token, and so does the edge of a serial pipe into the first line. So of
+/// each line, and of each serial pipe, one cell at most works at a time.
 #[tactic(auto, using(crate::proofs::FaultLemmas::spec_sound, crate::proofs::FaultLemmas::spec_refused))]
 pub fn pipe_net(alloc: Global, spec: &PipeSpec) -> Result<Net, PipeError>
     ensures net { IfOk result (IsPipeNet spec.now) }

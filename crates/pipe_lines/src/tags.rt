@@ -7,8 +7,8 @@ use crate::pipeline::PipeSpec;
 use outside_io::{List, NoMemory};
 use std::alloc::Global;
 
-/// Of each edge of a pipeline's net whether it leads along a pipe, from line to line, and not along a line, from pipe to
-/// pipe.
+/// Of each edge of a pipeline's net whether it leads along a pipe, from line to line, and not along a line, from pipe
+/// to pipe.
 pub fn along_pipes(alloc: Global, spec: &PipeSpec) -> Result<List<bool>, NoMemory>
     ensures { IfOk result (λ tags. tags ≡ along_pipes spec.now.lines spec.now.serial) }
 {

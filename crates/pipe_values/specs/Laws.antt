@@ -11,8 +11,8 @@ use Rattle.text_tasks.specs.PipeWork.{IsPipeWork, PipeWork}
 use Rattle.run_laws.specs.PlainJobs.{LeadsTo}
 use Rattle.pipe_values.specs.PipeValue.{pipe_value}
 
--- Each kept run of a pipeline comes to that value. No more tokens pass than there are parts: the limit of starts is by the
--- number of parts.
+-- Each kept run of a pipeline comes to that value. No more tokens pass than there are parts: the limit of starts is by
+-- the number of parts.
 abbrev pub ComesToPipeValue : FrameRun TextJob Item → Type 0
 ComesToPipeValue run =
     (work : PipeWork) → job_of run ≡ Pipe work → IsPipeWork work → length work.order.passed ≤ length work.parts → IsKept text_job run → LeadsTo text_job run (pipe_value work)

@@ -8,8 +8,8 @@ use Rattle.text_tasks.specs.CellMeaning.{line_op_value}
 use Rattle.text_tasks.specs.PipeWork.{PipeWork}
 use Rattle.run_laws.specs.TextAnswers.{as_value}
 
--- The text of a token with a place in the order behind pipes with these operations, where no text on its way is too long
--- for a value.
+-- The text of a token with a place in the order behind pipes with these operations, where no text on its way is too
+-- long for a value.
 abbrev pub text_behind : List LineOp → ℕ → ℕ → List ℕ → Option (List ℕ)
 text_behind [] token place text = Some text
 text_behind (op ∷ ops) token place text =
@@ -22,7 +22,7 @@ texts_behind work place [] = Some []
 texts_behind work place (token ∷ tokens) =
     option_and_then (λ text. option_map (λ texts. text ++ texts) (texts_behind work (place + 1) tokens)) (text_behind work.ops token place (slice_index_or work.parts token []))
 
--- What a pipeline comes to: nothing where a token never passes, or where a text on its way, or all of them together, would
--- be too long for a value.
+-- What a pipeline comes to: nothing where a token never passes, or where a text on its way, or all of them together,
+-- would be too long for a value.
 abbrev pub pipe_value : PipeWork → Option Item
 pipe_value work = if is_none work.order.unmet then option_and_then as_value (texts_behind work 0 work.order.passed) else None

@@ -7,7 +7,8 @@ use Rattle.ready_deques.specs.declared.ready.Ready.{Ready}
 abbrev pub tag_of : {T : Type 0} → Ready T → List ℕ
 tag_of ready = ready.tag.numbers
 
--- The tag of an owner's list, the table of its count word, and how many loads of that word by this owner found 0. The word is never below the number of items that are queued
+-- The tag of an owner's list, the table of its count word, and how many loads of that word by this owner found 0. The
+-- word is never below the number of items that are queued
 pub record OwnerState : Type 0 where
   pub tag : List ℕ
   pub counts : TableId

@@ -29,8 +29,8 @@
 //!
 //! - A push first gets a seat with one count, and then queues the item with that seat. The count is one that the owner
 //!   has to spare, and the count word stays as it is; an owner with none to spare raises the count word by one. If
-//!   neither the owner's deque nor the one for items from outside takes the item, the caller has the item again, and the
-//!   count is spare. A push from outside always raises the word, and lowers it again if it is refused.
+//!   neither the owner's deque nor the one for items from outside takes the item, the caller has the item again, and
+//!   the count is spare. A push from outside always raises the word, and lowers it again if it is refused.
 //! - An owner that takes an item, of its own or of another, adds the count of the item's seat to its own spare counts
 //!   and leaves the count word alone. So owners that push and take their own items write no word in common.
 //! - A `take` that finds no item first gathers the spare counts of all owners, from each word into its own seat, and

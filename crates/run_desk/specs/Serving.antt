@@ -28,8 +28,8 @@ IsServed old new (Cut n) = HasServed old new n false
 IsServed old new (Busy n) = IsOldestWaiting (seen new) n × EachIsPassedOver (seen new)
 IsServed old new Empty = NoneWaits (seen new)
 
--- There are runs that are all rounds which an ask of this history asked for, of its graph's job. The workers' watchers, if
--- there are any, were told in between as many spans as these runs have.
+-- There are runs that are all rounds which an ask of this history asked for, of its graph's job. The workers' watchers,
+-- if there are any, were told in between as many spans as these runs have.
 pub record HasRunRounds {J V X : Type 0} (meaning : Meaning J V) (told : X → ℕ) (jobs : List J) (history : List DeskEntry) (old new : List X) (n : ℕ) : Type 0 where
   pub ask : Ask
   pub asked : slice_get (asks_of history) n ≡ Some ask

@@ -30,8 +30,8 @@ pub enum Served {
 
 /// Takes the first ask whose turn has come, has its rounds run by the team, and hands them in. It may wait for the
 /// desk, and for the end of its team's runs; no lock is held while a graph runs. It looks at the desk in each call, and
-/// its answer is what the pass has then seen. Where an ask was served whole, the team's watchers were told as many spans
-/// as its rounds have, and where none was served, nothing. After `Cut` the team runs no further job.
+/// its answer is what the pass has then seen. Where an ask was served whole, the team's watchers were told as many
+/// spans as its rounds have, and where none was served, nothing. After `Cut` the team runs no further job.
 #[tactic(auto, using(crate::proofs::Serving::looks_twice, crate::proofs::Serving::has_served, crate::proofs::Serving::rounds_of))]
 pub fn serve<J: Recurs + Drop, X: Watch, E: EntersEach<J, X>, R: Threads + Wait + Sync>(
     rt: &R,

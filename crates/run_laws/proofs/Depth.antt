@@ -128,8 +128,8 @@ module _ {J V : Type 0} (meaning : Meaning J V) (plain : PlainJobs J V) (laws : 
   allows_plain (suc d) = allows_by (suc d) (λ inner. comes_to meaning plain inner (plain_answer meaning plain d inner)) (λ below run less is legal complete.
       comes_leads d run (subst (λ k. plain.is_plain k (job_of run)) (pred_same d below less) is) (allows_plain d (job_of run)) legal complete)
 
-  -- A run that is kept of a plain job is fine exactly where the values by one thread run through, and then its tasks have
-  -- ended with these values.
+  -- A run that is kept of a plain job is fine exactly where the values by one thread run through, and then its tasks
+  -- have ended with these values.
   pub runs_plainly : (run : FrameRun J V) → RunsPlainly meaning plain run
   runs_plainly run d is kept =
       let one = plain_answer meaning plain d (job_of run) in

@@ -1,5 +1,5 @@
--- A legal run came to its end fine, by its reason, exactly where its journal has no Fault and no Drop at the limit or for
--- want of a unit.
+-- A legal run came to its end fine, by its reason, exactly where its journal has no Fault and no Drop at the limit or
+-- for want of a unit.
 use Rattle.std.proofs.Common.{◌≡◌, ℕ, suc, ◌+◌, Bool, true, false, cond, List, [], ◌∷◌, length, map, Option, Some, None, sym, refl, ap, ◌∙◌, subst, arith}
 use Rattle.std.specs.Prelude.{◌==◌, count_by, slice_get, unwrap_or, IsSomeAnd}
 use Rattle.std.specs.Option.{option_map}

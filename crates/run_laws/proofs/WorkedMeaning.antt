@@ -223,8 +223,8 @@ module _ (ptr : Ptr) (alloc : Global)
       complete = record { none_open = tt; sources = tt; weak = tt; strong = tt; limited = λ some. absurd (some refl) };
     }
 
-    -- A value other than that to which a run inside was gathered, other edges than all, a fault, and a value where a run
-    -- was cut short are not the one answer.
+    -- A value other than that to which a run inside was gathered, other edges than all, a fault, and a value where a
+    -- run was cut short are not the one answer.
     other_value_inside : ¬ AllowsOne nests 2 (λ t found. Some (end 8 (0 ∷ [])))
     unfolding out-FrameRun out shown-the_row-InnerRow-0 shown out-InnerRow
     other_value_inside is =

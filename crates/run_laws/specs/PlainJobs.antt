@@ -1,5 +1,5 @@
--- Jobs of whose tasks each comes to one thing on what it finds, also by runs inside runs, and what such a job comes to: a
--- recursion over nets and over the depth of runs, without a journal and without an order of tasks.
+-- Jobs of whose tasks each comes to one thing on what it finds, also by runs inside runs, and what such a job comes to:
+-- a recursion over nets and over the depth of runs, without a journal and without an order of tasks.
 use Rattle.std.specs.Prelude.{◌≡◌, ℕ, zero, suc, Bool, not, ◌&&◌, nat_le, List, map, length, Option, Some, None, is_none, unwrap_or, if◌then◌else◌}
 use Rattle.std.specs.List.{list_any, last_or, range_with_len}
 use Rattle.std.specs.Option.{option_map, option_and_then}
@@ -47,10 +47,10 @@ runs_through net limit one = not (faults_somewhere net one (length net.tasks)) &
 
 -- ---- jobs
 
--- What the jobs of a type come to: what a task does on what it finds, or nothing where it faults; to what a run of a job
--- is gathered by the last values of its tasks, or nothing where gathering it faults; to what a job comes that is no graph
--- without conditions, as a pipeline, where that is known by itself; and the jobs that are plain, with runs inside runs
--- to a depth.
+-- What the jobs of a type come to: what a task does on what it finds, or nothing where it faults; to what a run of a
+-- job is gathered by the last values of its tasks, or nothing where gathering it faults; to what a job comes that is no
+-- graph without conditions, as a pipeline, where that is known by itself; and the jobs that are plain, with runs inside
+-- runs to a depth.
 pub record PlainJobs (J V : Type 0) : Type 1 where
   pub does : J → ℕ → List (InputValue V) → Option (Done J V)
   pub gathered : J → List (Option V) → Option V

@@ -13,7 +13,8 @@ use Rattle.text_tasks.specs.declared.job.TextJob.TheVariants.{Graph, Parts, Pipe
 use Rattle.text_tasks.specs.JobMeaning.{task_meaning}
 use Rattle.text_tasks.specs.OpMeaning.{OpMeaning, hands_over, moves_on, never_passes, runs, too_wide}
 
--- what is done by a meaning: a value that isn't too long, or a job in the task's place; else nothing, and the task faults
+-- what is done by a meaning: a value that isn't too long, or a job in the task's place; else nothing, and the task
+-- faults
 abbrev pub done_by : OpMeaning → Option (Done TextJob Item)
 done_by (hands_over text chosen) = if nat_le (length text) value_limit then Some (Value (Text text) chosen) else None
 done_by (moves_on cell chosen) = if nat_le (length cell.text) value_limit then Some (Value (Cell cell) chosen) else None

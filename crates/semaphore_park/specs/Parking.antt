@@ -1,8 +1,8 @@
 -- What is parked in a yard, as contracts see it.
 use Rattle.std.specs.Prelude.{ℕ, List, [], length, replicate, slice_index_or, slice_set}
 
--- A yard: what its items belong to, and the items that are parked on each semaphore, by its number, the first to be woken
--- in front
+-- A yard: what its items belong to, and the items that are parked on each semaphore, by its number, the first to be
+-- woken in front
 pub record YardView (T H : Type 0) : Type 0 where
   pub home : H
   pub lists : List (List T)

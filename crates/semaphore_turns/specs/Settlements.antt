@@ -36,8 +36,8 @@ pub record GoesFirst (old new : Releases) (release : FreshState) : Type 0 where
   pub first : slice_get (parked_on old sem) 0 ≡ Some release
   pub others : new ≡ woken_on old sem
 
--- Where none goes on the same are parked as before, each at its place. Or the first of one semaphore goes on, or all are
--- dropped.
+-- Where none goes on the same are parked as before, each at its place. Or the first of one semaphore goes on, or all
+-- are dropped.
 abbrev pub LeavesSettled : {V : Type 0} → TableState → Settled V → Releases → Releases → Type 0
 LeavesSettled table Waits old new = new ≡ old
 LeavesSettled table (Goes release) old new = GoesFirst old new release

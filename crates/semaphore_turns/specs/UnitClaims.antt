@@ -15,8 +15,8 @@ pub record HasToClaim (net : NetRows) (t : ℕ) (units : StartUnits) : Type 0 wh
   pub to_claim : PutsAlone net t units.to_claim
   pub refused : units.refused ≡ None
 
--- A start has claimed all that its task puts and doesn't take, or one of its claims was refused. Then a legal journal with this
--- start at its place allows a Fault of it for an over-release of that semaphore.
+-- A start has claimed all that its task puts and doesn't take, or one of its claims was refused. Then a legal journal
+-- with this start at its place allows a Fault of it for an over-release of that semaphore.
 abbrev pub ClaimsUnits : {V : Type 0} → TableState → RunningState V → ClaimedUnits V → Type 0
 ClaimsUnits table old (All r) = (r ≡ with_units old r.units r) × HasCredited table.net r.task r.units × HasClaimed table.net r.task r.units
 ClaimsUnits table old (Refused r sem) = (r ≡ with_units old r.units r) × HasCredited table.net r.task r.units × (r.units.refused ≡ Some sem) × AllowsOver table.net table.limit sem r.place r.task

@@ -42,8 +42,8 @@ abbrev pub passed_over : List ℕ → Option ℕ → List ℕ
 passed_over sems None = []
 passed_over sems (Some sem) = cond (list_any (λ s. s == sem) sems) (sem ∷ []) []
 
--- A turn is parked behind what waits for a unit of the same semaphore. Of the semaphores of its task's list, the first that
--- is parked is woken for each before that one, and for one after it if the turn was woken for its sake.
+-- A turn is parked behind what waits for a unit of the same semaphore. Of the semaphores of its task's list, the first
+-- that is parked is woken for each before that one, and for one after it if the turn was woken for its sake.
 pub record ParksLast (net : NetRows) (task : ℕ) (woken_for : Option ℕ) (turn : TurnState) (old new : Turns) (before after : List FreshState) : Type 0 where
   pub place : ℕ
   pub sem : ℕ

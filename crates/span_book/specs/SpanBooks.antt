@@ -18,8 +18,8 @@ pub record TellerState : Type 0 where
 abbrev pub teller_state : TableId → ℕ → TellerState
 teller_state book told = record { book = book; told = told }
 
--- The book of a run; how many runs it is inside; the spans that its keeper took in, those of runs inside it among them; and how
--- many runs inside it were opened and came back
+-- The book of a run; how many runs it is inside; the spans that its keeper took in, those of runs inside it among them;
+-- and how many runs inside it were opened and came back
 pub record SpansState : Type 0 where
   pub book : TableId
   pub depth : ℕ
@@ -34,8 +34,8 @@ spans_state book depth noted opened back = record { book = book; depth = depth; 
 abbrev pub no_spans : TableId → ℕ → SpansState
 no_spans book depth = spans_state book depth 0 0 0
 
--- The book of an outermost run that has back what was opened in it; how many tellers were collected and the spans that these told;
--- the spans that the run's keeper took in; and how many runs were opened in it
+-- The book of an outermost run that has back what was opened in it; how many tellers were collected and the spans that
+-- these told; the spans that the run's keeper took in; and how many runs were opened in it
 pub record TallyState : Type 0 where
   pub book : TableId
   pub tellers : ℕ

@@ -6,8 +6,8 @@ use super::watch::Watch;
 use journal_rules::Span;
 use outside_io::NoMemory;
 
-/// A watcher that counts so many spans, keeps none, and refuses each further one, as a watcher does that finds no memory.
-/// It takes no memory itself.
+/// A watcher that counts so many spans, keeps none, and refuses each further one, as a watcher does that finds no
+/// memory. It takes no memory itself.
 #[derive(Drop)]
 pub struct SpanFuse {
     count: u64,

@@ -1,5 +1,5 @@
--- What of frames may go to other threads, and what threads may share: of the types that it is made of, one after the other,
--- since a search for all at once gives up.
+-- What of frames may go to other threads, and what threads may share: of the types that it is made of, one after the
+-- other, since a search for all at once gives up.
 use denote.RattleType.{RattleType}
 use denote.Param.Send.{IsSend, IsSync, sendable}
 use denote.Param.SendFields.{declared_send}

@@ -20,8 +20,8 @@ use Rattle.table_frames.specs.declared.step_results.Brought.{Brought}
 use Rattle.table_frames.specs.declared.step_results.State.{State}
 use Rattle.table_frames.specs.declared.step_results.State.TheVariants.{Went, Parked, Inner, Resumed, Closed}
 
--- A frame's keeper has taken in these fates last. As it did it found how many turns were live, and the run is over exactly
--- where that was one.
+-- A frame's keeper has taken in these fates last. As it did it found how many turns were live, and the run is over
+-- exactly where that was one.
 pub record TakesIn {J V : Type 0} (frames : List (FrameKey J)) (fates : List (Fate V)) (over : Type 0) (keeper : KeeperState V) : Type 0 where
   pub table : HasTable frames keeper.table
   pub earlier : List (Fate V)
@@ -34,9 +34,10 @@ abbrev pub MayTakeIn : {J V : Type 0} → List (FrameKey J) → List (Fate V) �
 MayTakeIn frames fates over None = ¬ over
 MayTakeIn frames fates over (Some keeper) = TakesIn frames fates over keeper
 
--- The run of a frame is over that was inside another, and has the entries of these fates. So the start whose work it was is used up
--- in the frame around by one fate, which the job there allows with this run. That alone is in the backlog then, and these releases
--- of the frame around were made: by the End's edges, since its task isn't released again, and of those that waited for units.
+-- The run of a frame is over that was inside another, and has the entries of these fates. So the start whose work it
+-- was is used up in the frame around by one fate, which the job there allows with this run. That alone is in the
+-- backlog then, and these releases of the frame around were made: by the End's edges, since its task isn't released
+-- again, and of those that waited for units.
 pub record ResumesStart {J V : Type 0} (meaning : Meaning J V) (frames : List (FrameKey J)) (fates : List (Fate V)) (released : List (ReleaseView J)) (new : BacklogView J V) : Type 0 where
   pub inner : FrameKey J
   pub frame : FrameKey J
@@ -53,8 +54,8 @@ pub record ResumesStart {J V : Type 0} (meaning : Meaning J V) (frames : List (F
   pub edges : GivesEdges (meaning.net frame.job) frame.table (given_by uses.fate) [] uses.by_end
   pub released_are : released ≡ map (release_in release.frames) made
 
--- The run of a frame that is in no other is over. It is given out with the account of its book, may be kept, and has the entries of
--- these fates.
+-- The run of a frame that is in no other is over. It is given out with the account of its book, may be kept, and has
+-- the entries of these fates.
 pub record ClosesRun {J V : Type 0} (meaning : Meaning J V) (frames : List (FrameKey J)) (fates : List (Fate V)) (closed : ClosedRun J V) : Type 0 where
   pub frame : FrameKey J
   pub frames_are : frames ≡ frame ∷ []
@@ -88,7 +89,8 @@ pub record BringsFates {J V : Type 0} (meaning : Meaning J V) (frames : List (Fr
   pub to : BringsTo meaning frames fates new brought.state
   pub keeper : MayTakeIn frames fates (IsOver brought.state) (option_map (λ s. s.value) brought.keeper)
 
--- A bringing failed: the backlog stays as it was, or nothing is in it. Then it is of its frame, of the frame around, or of none.
+-- A bringing failed: the backlog stays as it was, or nothing is in it. Then it is of its frame, of the frame around, or
+-- of none.
 abbrev pub IsLeftOf : {J V : Type 0} → BacklogView J V → BacklogView J V → Type 0
 IsLeftOf old new = (new ≡ old) ⊎ ((new.fates ≡ []) × IsFrameOf old.frames new.frames)
 

@@ -54,8 +54,8 @@ book_of frames = book_at (root_frame frames)
 abbrev pub IsTellerOf : {J : Type 0} → List (FrameKey J) → TellerState → Type 0
 IsTellerOf frames teller = IfSome (book_of frames) (λ book. teller.book ≡ book)
 
--- The account of an outermost run that is over is without tellers, and has noted as many spans as the run has, with those of the
--- runs inside it.
+-- The account of an outermost run that is over is without tellers, and has noted as many spans as the run has, with
+-- those of the runs inside it.
 pub record IsAccounted {J V : Type 0} (closed : ClosedRun J V) : Type 0 where
   pub tellers : closed.spans.tellers ≡ 0
   pub told : closed.spans.told ≡ 0
@@ -81,8 +81,8 @@ abbrev pub HasTable : {J : Type 0} → List (FrameKey J) → TableId → Type 0
 HasTable [] n = ⊥
 HasTable (frame ∷ around) n = n ≡ frame.table
 
--- what was done in a frame and isn't recorded yet: the keys of the frame and of those around it, and what became of releases
--- of it, in the order of the steps; no keys where there is no such frame
+-- what was done in a frame and isn't recorded yet: the keys of the frame and of those around it, and what became of
+-- releases of it, in the order of the steps; no keys where there is no such frame
 pub record BacklogView (J V : Type 0) : Type 0 where
   pub frames : List (FrameKey J)
   pub fates : List (Fate V)

@@ -60,9 +60,9 @@ pub record BeginsFrame {J V : Type 0} (meaning : Meaning J V) (job : J) (book : 
 abbrev pub units_of : NetRows → ℕ → List ℕ
 units_of net t = taken_by net t ++ put_by net t
 
--- A release was used up by one fate, which the job of its frame allows with the run that was made in place of the work, if one
--- was. Its entries are in one legal journal, and it is in the backlog now. It made these releases, and woke others that waited for
--- units of its task's semaphores.
+-- A release was used up by one fate, which the job of its frame allows with the run that was made in place of the work,
+-- if one was. Its entries are in one legal journal, and it is in the backlog now. It made these releases, and woke
+-- others that waited for units of its task's semaphores.
 pub record UsesRelease {J V : Type 0} (meaning : Meaning J V) (frame : FrameKey J) (release : ReleaseView J) (old new : BacklogView J V) (made : List FreshState) : Type 0 where
   pub fate : Fate V
   pub run : Option (FrameRun J V)
@@ -73,14 +73,14 @@ pub record UsesRelease {J V : Type 0} (meaning : Meaning J V) (frame : FrameKey 
   pub wakes : Wakes (table_in meaning frame) (units_of (meaning.net frame.job) release.task) by_end made
   pub backlog : new ≡ backlog_view release.frames (old.fates ++ fate ∷ [])
 
--- A step used its release up. It made no run in place of the work, or one in which nothing was to be done: another is opened, and
--- is not run inside the step.
+-- A step used its release up. It made no run in place of the work, or one in which nothing was to be done: another is
+-- opened, and is not run inside the step.
 pub record UsesAtOnce {J V : Type 0} (meaning : Meaning J V) (frame : FrameKey J) (release : ReleaseView J) (old new : BacklogView J V) (made : List FreshState) : Type 0 where
   pub uses : UsesRelease meaning frame release old new made
   pub inner : IsOverAtOnce meaning uses.run
 
--- A step parked its release, as a turn of the frame's table whose last step found no unit of a semaphore that its task takes. It
--- woke others that waited for units that the turn put back, and perhaps released the same task again.
+-- A step parked its release, as a turn of the frame's table whose last step found no unit of a semaphore that its task
+-- takes. It woke others that waited for units that the turn put back, and perhaps released the same task again.
 pub record ParksRelease {J V : Type 0} (meaning : Meaning J V) (frame : FrameKey J) (release : ReleaseView J) (old new : BacklogView J V) (made : List FreshState) (turn : TurnState) : Type 0 where
   pub is : release_of turn ≡ fresh_state frame.table release.task release.cause
   pub sem : ℕ
@@ -91,9 +91,10 @@ pub record ParksRelease {J V : Type 0} (meaning : Meaning J V) (frame : FrameKey
   pub again : MayRelease frame.table release.task release.cause woken made
   pub backlog : new ≡ backlog_view release.frames old.fates
 
--- A step opened a run of a job that the job of its frame answers in place of the work of its release. The run has these first
--- releases, by rising task, at least one, and the same book of spans. The start of the release stays open, and the task was perhaps
--- released again. The Start's entry is in one legal journal, with the inputs on which the job answers.
+-- A step opened a run of a job that the job of its frame answers in place of the work of its release. The run has these
+-- first releases, by rising task, at least one, and the same book of spans. The start of the release stays open, and
+-- the task was perhaps released again. The Start's entry is in one legal journal, with the inputs on which the job
+-- answers.
 pub record OpensInner {J V : Type 0} (meaning : Meaning J V) (frame : FrameKey J) (release : ReleaseView J) (old new : BacklogView J V) (made : List FreshState) (first : List (ReleaseView J)) : Type 0 where
   pub place : ℕ
   pub ins : Ins V
@@ -114,8 +115,8 @@ StepsTo meaning frame release old new made (Inner first) = OpensInner meaning fr
 StepsTo meaning frame release old new made (Resumed releases) = ⊥
 StepsTo meaning frame release old new made (Closed closed) = ⊥
 
--- A step was taken: its release was used up or parked, or a run was opened for it. It handed out these releases, which are of the
--- same frame.
+-- A step was taken: its release was used up or parked, or a run was opened for it. It handed out these releases, which
+-- are of the same frame.
 pub record StepsRelease {J V : Type 0} (meaning : Meaning J V) (release : ReleaseView J) (old new : BacklogView J V) (stepped : Stepped J V) : Type 0 where
   pub frame : FrameKey J
   pub around : List (FrameKey J)

@@ -184,8 +184,8 @@ fn work<J: Job + Drop, X: Watch>(
     }
 }
 
-/// Concludes an attempt. Its turn is done then, the watcher is told the span that it ended, if it ended one, and what it
-/// made is ready. The spans of a run that was made in place of the work it was told before.
+/// Concludes an attempt. Its turn is done then, the watcher is told the span that it ended, if it ended one, and what
+/// it made is ready. The spans of a run that was made in place of the work it was told before.
 pub(crate) fn conclude<J: Job + Drop, X: Watch>(
     run: &TableRun<J>,
     bench: &mut Bench<J>,

@@ -292,8 +292,8 @@ impl<J: Job + Drop> Frame<J> {
     }
 
     // Takes turns of the frame in, with the run inside it that has come back, if one of them is of its start. A teller
-    // told their spans. With the last turn the run is given out, and the lock is left without a value: nobody has a turn
-    // by which to take it.
+    // told their spans. With the last turn the run is given out, and the lock is left without a value: nobody has a
+    // turn by which to take it.
     pub(crate) fn keep<R: Wait>(
         &self,
         rt: &R,

@@ -25,8 +25,8 @@ impl<J: Job + Drop> Frame<J> {
     ghost use Rattle.table_frames.specs.inside.Openings.{OpensFrame};
 
     /// Begins a run of a job, with its first releases by rising task: of each source task, and of each task that has
-    /// strong in-edges, all of which begin with a token. If there is none, the run is complete as it is, and closed. Its
-    /// spans are in this book, whose tellers are dealt.
+    /// strong in-edges, all of which begin with a token. If there is none, the run is complete as it is, and closed.
+    /// Its spans are in this book, whose tellers are dealt.
     pub fn begin(
         alloc: Global,
         job: Arc<J>,

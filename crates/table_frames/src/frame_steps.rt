@@ -32,8 +32,9 @@ impl<J: Job + Drop> Frame<J> {
     /// fault, or parks it where a semaphore that its task takes has no unit. Where its job answers a job, it opens a
     /// run of that job and steps nothing in it; only a run that has no first release is over in the same call. What
     /// became of the release is then in the backlog, which was of this frame or of none. It may wait where releases are
-    /// parked, for the lock that they are under, and where it opens a run, for that of its frame. If an allocation fails the release is given up, so that the run is
-    /// never closed, and the backlog has what it had; from the End's place on no memory is needed.
+    /// parked, for the lock that they are under, and where it opens a run, for that of its frame. If an allocation
+    /// fails the release is given up, so that the run is never closed, and the backlog has what it had; from the End's
+    /// place on no memory is needed.
     pub fn step<R: Wait>(
         rt: &R,
         release: Release<J>,

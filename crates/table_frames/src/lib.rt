@@ -25,15 +25,16 @@
 //!
 //! # The spans
 //!
-//! A frame and all inside it have one book of spans (`span_book`). Whoever takes steps is a `Teller` of the book, and may
-//! tell each span, a start with its End or Fault, as soon as a step has ended it (`Backlog::newest_span`). A bringing
-//! notes the spans of the backlog: the teller's number and that of the frame rise by as many. Under the frame's lock it
-//! is known how many runs were opened inside it and came back, with what they noted. While one is open, what is brought
-//! is laid aside there (`LockedRun`). So when the outermost run is over, its frame has noted as many spans as the run
-//! has, with those of the runs inside it, and nothing is noted elsewhere: together the tellers told as many.
+//! A frame and all inside it have one book of spans (`span_book`). Whoever takes steps is a `Teller` of the book, and
+//! may tell each span, a start with its End or Fault, as soon as a step has ended it (`Backlog::newest_span`). A
+//! bringing notes the spans of the backlog: the teller's number and that of the frame rise by as many. Under the
+//! frame's lock it is known how many runs were opened inside it and came back, with what they noted. While one is open,
+//! what is brought is laid aside there (`LockedRun`). So when the outermost run is over, its frame has noted as many
+//! spans as the run has, with those of the runs inside it, and nothing is noted elsewhere: together the tellers told as
+//! many.
 //!
-//! `run_alone` runs a job on the caller's thread by the same steps, with the keepers in hand and without a book: it goes
-//! on with the innermost run.
+//! `run_alone` runs a job on the caller's thread by the same steps, with the keepers in hand and without a book: it
+//! goes on with the innermost run.
 //!
 //! # The parts
 //!

@@ -12,8 +12,8 @@ use std::snapshot::Snapshot;
 use std::sync::Arc;
 use table_runs::OpenStart;
 
-/// A run inside another that is over, with the account of its spans, the frame around its own, and the start there whose
-/// work it was.
+/// A run inside another that is over, with the account of its spans, the frame around its own, and the start there
+/// whose work it was.
 #[derive(Drop)]
 pub struct InnerOver<J: Job> {
     pub parent: Arc<Frame<J>>,

@@ -47,8 +47,8 @@ use Rattle.table_runs.proofs.Rows.{HasNumber, IsItsValue, end_among, found_at, o
 use Rattle.table_runs.proofs.Runs.{IsIn, RunAt, fates_in, placed_at, placed_of, row_at, rows_moved, run_of}
 use Rattle.table_runs.proofs.Working.{Stand, EndAt, NamesEnd, TurnHolds, TurnOf, EndsAs, FaultsAs, get_left, get_here, names_ends, found_is, all_hold, all_own, find, ends_as, ends_place, faults_as, faults_place, may_have, placed_counted}
 
--- what is known of the fates and the runs that a keeper has when it has taken in the last turn, and of the journal, the values and
--- the rows that it hands out
+-- what is known of the fates and the runs that a keeper has when it has taken in the last turn, and of the journal, the
+-- values and the rows that it hands out
 pub record Tells {J V : Type 0} (meaning : Meaning J V) (job : J) (fates : List (Fate V)) (told : List (InnerRow J V)) (h : List Entry) (values : List (RecordedValue V)) (rows : List (ValueRow V)) (inner : List (InnerRow J V)) : Type 0 where
   pub allowed : AreAllowed meaning job fates told
   pub agree : AgreeOnValues fates

@@ -16,8 +16,8 @@ use Rattle.run_frame.specs.declared.run.FrameRun.{FrameRun}
 abbrev pub work_with : {V : Type 0} → ℕ → Ins V → Work V
 work_with t ins = record { task = t; found = map found_of (parts_of ins) }
 
--- An End with this value and these edges comes from what the job answers: from a value, or, where it is an inner End, from the
--- run of a job.
+-- An End with this value and these edges comes from what the job answers: from a value, or, where it is an inner End,
+-- from the run of a job.
 abbrev pub EndAllowed : {J V : Type 0} → Meaning J V → J → Work V → V → List ℕ → Bool → Option (FrameRun J V) → Type 0
 EndAllowed meaning job work v gives false None = Answers meaning job work v gives
 EndAllowed meaning job work v gives true (Some run) = InnerEnd meaning job work v gives run
@@ -28,9 +28,9 @@ abbrev pub WhyAllowed : {J V : Type 0} → Meaning J V → J → Work V → Why 
 WhyAllowed meaning job work why None = FaultAllowed meaning job work why
 WhyAllowed meaning job work why (Some run) = IsInnerOf meaning job work run × InnerWhy meaning run why
 
--- The value with which a start ended and the edges that it gave, or the reason for which it faulted, are of the work that the
--- job allows on what the start found, with the run that was made in place of the work, if one was. A release that was dropped
--- made none.
+-- The value with which a start ended and the edges that it gave, or the reason for which it faulted, are of the work
+-- that the job allows on what the start found, with the run that was made in place of the work, if one was. A release
+-- that was dropped made none.
 abbrev pub FateAllowed : {J V : Type 0} → Meaning J V → J → Fate V → Option (FrameRun J V) → Type 0
 FateAllowed meaning job (Ended e) run = EndAllowed meaning job (work_with e.task e.found.ins.value) (arc_value e.value) e.gives e.inner run
 FateAllowed meaning job (Faulted f) run = WhyAllowed meaning job (work_with f.task f.found.ins.value) f.why run

@@ -47,8 +47,8 @@ count_of (Some x) = 1
 abbrev pub room_due : {J V : Type 0} → Attempt J V → ℕ
 room_due attempt = edges_due attempt.outcome + count_of attempt.again
 
--- A start may end with this value, which its job allows with these edges and this run in place of the work, if there was one.
--- The value has an owner for each of the edges.
+-- A start may end with this value, which its job allows with these edges and this run in place of the work, if there
+-- was one. The value has an owner for each of the edges.
 pub record MayEnd {J V : Type 0} (meaning : Meaning J V) (frame : FrameKey J) (run : Option (FrameRun J V)) (ending : Ending V) : Type 0 where
   pub table : ending.running.table ≡ frame.table
   pub credited : HasCredited (meaning.net frame.job) ending.running.task ending.running.units

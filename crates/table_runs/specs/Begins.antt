@@ -8,8 +8,8 @@ use Rattle.table_runs.specs.Runs.{AreOf}
 use Rattle.table_runs.specs.Spans.{spans_kept}
 use Rattle.table_runs.specs.declared.table_run.Begun.{Begun}
 
--- A run of a job has begun: its first releases are of its table, and so is its keeper, which has taken in nothing. Where
--- there is no release, the run is finished.
+-- A run of a job has begun: its first releases are of its table, and so is its keeper, which has taken in nothing.
+-- Where there is no release, the run is finished.
 pub record Begins {J V : Type 0} (meaning : Meaning J V) (job : J) (begun : Begun J V) : Type 0 where
   pub job_is : begun.run.job ≡ job
   pub first : begun.fresh.items ≡ first_fresh begun.run.table (meaning.net job) 0 (length (meaning.net job).tasks)

@@ -9,8 +9,8 @@ use Rattle.run_frame.specs.Meaning.{Meaning}
 use Rattle.run_frame.specs.NestedRule.{journal_of}
 use Rattle.run_frame.specs.declared.run.FrameRun.{FrameRun}
 
--- The entries of a fate are, at their places, in one journal that is legal as far as the job's net decides and whose starts
--- find what they may.
+-- The entries of a fate are, at their places, in one journal that is legal as far as the job's net decides and whose
+-- starts find what they may.
 abbrev pub IsInJournal : {J V : Type 0} → Meaning J V → J → Fate V → Type 0
 IsInJournal meaning job fate = AreInOneJournal (meaning.net job) (meaning.limit job) (with_places (entries_of fate))
 

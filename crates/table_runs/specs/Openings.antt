@@ -29,7 +29,8 @@ pub record WasOver {J V : Type 0} (meaning : Meaning J V) (run : FrameRun J V) :
 abbrev pub IsOverAtOnce : {J V : Type 0} → Meaning J V → Option (FrameRun J V) → Type 0
 IsOverAtOnce meaning run = IfSome run (WasOver meaning)
 
--- A run has begun in place of the work of a start of a frame, with the same book of spans. Something is to be done in the run.
+-- A run has begun in place of the work of a start of a frame, with the same book of spans. Something is to be done in
+-- the run.
 pub record IsInnerIn {J V : Type 0} (meaning : Meaning J V) (frame : FrameKey J) (inner : InnerBegun J V) : Type 0 where
   pub frame_is : inner.start.frame ≡ frame
   pub start : IsStartOf meaning inner.begun.run.job inner.start
@@ -38,8 +39,8 @@ pub record IsInnerIn {J V : Type 0} (meaning : Meaning J V) (frame : FrameKey J)
   pub some : inner.begun.fresh.items ≢ []
   pub again : IsAgain frame.table inner.start.running.task inner.start.running.cause inner.again
 
--- An attempt at work that is done, in which nothing was to be done in the run that was made in its place, if one was. Or a run has
--- begun in its place.
+-- An attempt at work that is done, in which nothing was to be done in the run that was made in its place, if one was.
+-- Or a run has begun in its place.
 abbrev pub Tries : {J V : Type 0} → Meaning J V → FrameKey J → FreshState → Tried J V → Type 0
 Tries meaning frame release (Done attempt) = IsAttemptIn meaning frame attempt × (release_tried frame.table attempt.outcome ≡ release) × IsOverAtOnce meaning attempt.inner
 Tries meaning frame release (Inner inner) = IsInnerIn meaning frame inner × (fresh_state frame.table inner.start.running.task inner.start.running.cause ≡ release)

@@ -26,7 +26,8 @@ pub record MayWork {V : Type 0} (net : NetRows) (r : RunningState V) : Type 0 wh
   pub parts : length (parts_in r.ins) ≡ length (edges_of net r.task r.cause)
   pub claims : HasToClaim net r.task r.units
 
--- a turn of a frame that is done, as its job allows, and whose entries are in one journal that is legal as far as the net decides
+-- a turn of a frame that is done, as its job allows, and whose entries are in one journal that is legal as far as the
+-- net decides
 pub record IsDone {J V : Type 0} (meaning : Meaning J V) (frame : FrameKey J) (turn : DoneTurn J V) : Type 0 where
   pub table : turn.spent.table ≡ frame.table
   pub allowed : IsAllowed meaning frame.job turn.spent.fate turn.inner

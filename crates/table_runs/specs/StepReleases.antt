@@ -46,8 +46,8 @@ pub record MayRelease (n : TableId) (t : ℕ) (cause : Cause) (before after : Li
   pub after_is : after ≡ before ++ again
   pub is : (again ≡ []) ⊎ ((cause ≡ Strong) × (again ≡ fresh_state n t Strong ∷ []))
 
--- What a step makes of a release, to which this came: first releases by the edges that its end gave, then such a release of
--- the same task.
+-- What a step makes of a release, to which this came: first releases by the edges that its end gave, then such a
+-- release of the same task.
 pub record Makes {V : Type 0} (net : NetRows) (release : FreshState) (fate : Fate V) (before after : List FreshState) : Type 0 where
   pub between : List FreshState
   pub gives : GivesEdges net release.table (given_by fate) before between

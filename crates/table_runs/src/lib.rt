@@ -25,9 +25,9 @@
 //! A `RunKeeper` has the keeper of a run, and the runs that were made inside it. All that it took in is allowed by the
 //! job, so that the run that it hands out may be kept (`finish`).
 //!
-//! A start with its End or Fault is a span (`count_spans`, `span_of`). A run that is handed out has as many spans as its
-//! keeper took in, with those of the runs inside it. A run may have a book of spans (`span_book`), which the runs inside
-//! it share; here it is only known by its name.
+//! A start with its End or Fault is a span (`count_spans`, `span_of`). A run that is handed out has as many spans as
+//! its keeper took in, with those of the runs inside it. A run may have a book of spans (`span_book`), which the runs
+//! inside it share; here it is only known by its name.
 //!
 //! # Where its definitions are
 //!

@@ -1,4 +1,5 @@
--- Credits and claims keep the account of units; a claim is refused only where a unit would be given back that isn't out.
+-- Credits and claims keep the account of units; a claim is refused only where a unit would be given back that isn't
+-- out.
 use Rattle.std.proofs.Common.{ℕ, ◌<◌, List, length}
 use Rattle.task_graph.specs.NetRows.{NetRows}
 use Rattle.journal_rules.specs.declared.entry.Entry.{Entry}

@@ -1,4 +1,5 @@
--- Where the seats have nothing left to do, the journal is complete; and one that has all the live turns has all that is to do.
+-- Where the seats have nothing left to do, the journal is complete; and one that has all the live turns has all that is
+-- to do.
 use Rattle.std.proofs.Common.{◌≡◌, ◌≢◌, ◌⊎◌, inl, inr, ℕ, zero, suc, min, ◌<◌, ◌≤◌, Bool, true, false, ◌&&◌, eqb, List, [], ◌∷◌, length, map, Option, Some, None, sym, refl, ap, ◌∙◌, arith}
 use Rattle.std.specs.Prelude.{count_by, ◌==◌, is_some, fold}
 use Rattle.std.specs.Option.{option_map_or}

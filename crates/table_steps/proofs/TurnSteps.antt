@@ -1,4 +1,5 @@
--- What the steps on the clock and on the words of turns and starts ask is met, and so is what splits, joins and loads ask.
+-- What the steps on the clock and on the words of turns and starts ask is met, and so is what splits, joins and loads
+-- ask.
 use Rattle.std.proofs.Common.{◌≡◌, ◌⊎◌, inl, inr, ℕ, zero, suc, ◌+◌, ◌%◌, ◌^◌, ◌<◌, ◌≤◌, Bool, true, false, List, [], ◌∷◌, ◌++◌, length, set, sym, refl, ap, ◌∙◌, subst, arith}
 use Rattle.std.specs.Prelude.{slice_index, nat_lt}
 use Rattle.std.proofs.lemmas.Bool.Decides.{nat_tests}

@@ -23,8 +23,8 @@ entries_in notes = flat_map told_by notes
 abbrev pub HasEntry : List Entry → ℕ × Entry → Type 0
 HasEntry journal e = slice_get journal e.0 ≡ Some e.1
 
--- One journal, legal as far as the net decides and in which each start finds what it may, has each of these entries at its
--- index.
+-- One journal, legal as far as the net decides and in which each start finds what it may, has each of these entries at
+-- its index.
 pub record AreInOneJournal (net : NetRows) (limit : ℕ) (entries : List (ℕ × Entry)) : Type 0 where
   pub journal : List Entry
   pub legal : ShapeLegal net limit journal

@@ -51,7 +51,8 @@ pub record IsInnerJob (work inner : NumberWork) : Type 0 where
 abbrev pub IsNestedTask : NetRows → ℕ → Type 0
 IsNestedTask net task = IfSome (slice_get net.tasks task) (λ (row : TaskRow). row.shape ≡ Nested)
 
--- A task that comes to a number may give it to any of its successors. A Nested one may answer a job of the first net inside.
+-- A task that comes to a number may give it to any of its successors. A Nested one may answer a job of the first net
+-- inside.
 abbrev pub NumberDone : NumberWork → ℕ → ℕ → Done NumberWork ℕ → Type 0
 NumberDone work task number (Value n answer) = (n ≡ number) × IfSome (slice_get work.net.tasks task) (λ (row : TaskRow). FitsShape row.shape answer)
 NumberDone work task number (InnerJob inner) = IsNestedTask work.net task × IsInnerJob work inner

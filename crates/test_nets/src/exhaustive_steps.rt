@@ -61,8 +61,8 @@ const NETS: [(Shape, Units, Links); 22] = [
     (Shape::Plain, Units::Taken, Links::Beside),
 ];
 
-// Of how many runs of a net what is to be said (`column_of`): that it is legal so far, that it is complete, and that its
-// last step breaks each rule.
+// Of how many runs of a net what is to be said (`column_of`): that it is legal so far, that it is complete, and that
+// its last step breaks each rule.
 type Counts = [u32; 13];
 
 // What `tools/small_nets.py` counts for each of the nets.

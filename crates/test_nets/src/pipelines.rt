@@ -72,7 +72,8 @@ fn pipelines_have_nets_or_are_refused(rt: HostRuntime) -> Result<(), Fail> {
     Ok(())
 }
 
-// How many tokens there are, and of those that are deferred the targets; which tokens pass, and what is behind the last.
+// How many tokens there are, and of those that are deferred the targets; which tokens pass, and what is behind the
+// last.
 struct OrderCase {
     tokens: u64,
     rows: &'static [(u64, &'static [u64])],

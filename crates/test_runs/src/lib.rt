@@ -1,5 +1,5 @@
-//! Runs of jobs by one thread and by crews, whose journals are judged. There is nothing here but tests. A case is a line
-//! of a text and has a name, which a failing test tells.
+//! Runs of jobs by one thread and by crews, whose journals are judged. There is nothing here but tests. A case is a
+//! line of a text and has a name, which a failing test tells.
 //!
 //! `job_cases.rt` says how a case is written, and `nets.rt` how its nets are. The cases are in `plain_cases.rt`,
 //! `unit_cases.rt` and `inner_cases.rt`. `job_runs.rt` runs each over the frames of `table_frames`, in the orders of

@@ -2,13 +2,13 @@
 //
 // The first word of a text is the semaphores and the tasks of a net, or `-` for none. A digit is a semaphore of so many
 // units. A letter is a task: `p` is a plain one, `c` a choice and `m` a choice of many, which need no unit, `t` takes a
-// unit, `g` gives one back, `u` does both, `d` is a choice that does both, `v` takes a unit of the second semaphore, `w`
-// gives one back, `h` takes and gives back a unit of each of the two, `n` has an inner graph, and `k` has one and takes
-// and gives back a unit.
+// unit, `g` gives one back, `u` does both, `d` is a choice that does both, `v` takes a unit of the second semaphore,
+// `w` gives one back, `h` takes and gives back a unit of each of the two, `n` has an inner graph, and `k` has one and
+// takes and gives back a unit.
 //
-// Each further word of two letters is an edge, from the task that it leaves to the one that it leads to, where `a` is the
-// first; with a star behind them it begins with a token. `+300` is three hundred plain tasks more, each of which follows
-// the first task and precedes the second.
+// Each further word of two letters is an edge, from the task that it leaves to the one that it leads to, where `a` is
+// the first; with a star behind them it begins with a token. `+300` is three hundred plain tasks more, each of which
+// follows the first task and precedes the second.
 //
 // So `1pdp ab bb* bc` has a semaphore of one unit and three tasks in a row, of which the middle one holds the unit, and
 // chooses between itself and the last one.

@@ -57,8 +57,8 @@ fn check_run(
     Ok(starts)
 }
 
-// The journal of a run is complete and meets the data rule, and no start lacks a part. By one thread the parts are found
-// in their order, besides, where no release is parked.
+// The journal of a run is complete and meets the data rule, and no start lacks a part. By one thread the parts are
+// found in their order, besides, where no release is parked.
 fn check_journal(
     rt: &impl Abort,
     alloc: Global,

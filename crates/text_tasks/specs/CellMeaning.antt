@@ -31,8 +31,8 @@ place_in (value item) = item_place item
 place_in first = 0
 place_in nothing = 0
 
--- A cell of the first pipe, at a place of the order: the token that passes there goes on with its part of the text; behind
--- the last one nothing does; for a token that never passes the cell comes to nothing.
+-- A cell of the first pipe, at a place of the order: the token that passes there goes on with its part of the text;
+-- behind the last one nothing does; for a token that never passes the cell comes to nothing.
 abbrev pub enters : PipeWork → LineOp → ℕ → Passed → OpMeaning
 enters work op place (Token k) = moves_on (record { text = line_op_value op k place (slice_index_or work.parts k []); token = k; place = place }) Each
 enters work op place Stop = moves_on (record { text = []; token = 0; place = place }) NoneOf

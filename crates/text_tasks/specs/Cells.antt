@@ -9,8 +9,8 @@ use Rattle.pipe_lines.specs.declared.order.Passed.TheVariants.{Token, Stop, Unme
 use Rattle.pipe_lines.specs.Orders.{passed_at}
 use Rattle.pipe_lines.specs.PipeNet.{along_pipes, cell, pipe_net}
 
--- A pipeline: how many lines it has, of each pipe whether it is serial, and the order in which its tokens pass the first
--- pipe; and of each value its token and that token's place in the order.
+-- A pipeline: how many lines it has, of each pipe whether it is serial, and the order in which its tokens pass the
+-- first pipe; and of each value its token and that token's place in the order.
 pub record Pipeline (V : Type 0) : Type 0 where
   pub lines : ℕ
   pub serials : List Bool

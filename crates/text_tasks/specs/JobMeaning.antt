@@ -32,8 +32,8 @@ use Rattle.text_tasks.specs.Sinks.{last_sink, sink_texts, task_values}
 
 -- ---- what tasks do
 
--- What the task of a number does on what it finds. The task of a graph does the work of its operation; that of a part puts
--- the part through the operation of all parts; a cell of a pipeline does what is done at its pipe.
+-- What the task of a number does on what it finds. The task of a graph does the work of its operation; that of a part
+-- puts the part through the operation of all parts; a cell of a pipeline does what is done at its pipe.
 abbrev pub task_meaning : TextJob → ℕ → List (InputValue Item) → Option OpMeaning
 task_meaning (Graph work) task found = option_map (op_meaning work found) (slice_get (graph_of work).ops task)
 task_meaning (Parts work) task found = option_map (λ part. hands_over (text_op_value work.op part) Each) (slice_get work.parts task)
@@ -127,7 +127,8 @@ text_gathered (Graph work) run = gathered_text (Graph work) (task_values (net_of
 text_gathered (Parts work) run = gathered_text (Parts work) (task_values (net_of (Parts work)) run)
 text_gathered (Pipe work) run = pipe_text work run
 
--- what a run hands to the next round: the value of the last End of the last task that leads to no other, or the empty text
+-- what a run hands to the next round: the value of the last End of the last task that leads to no other, or the empty
+-- text
 abbrev pub feedback_of : FrameRun TextJob Item → List ℕ
 feedback_of run = option_map_or item_text (option_and_then (last_value (journal_of run) (values_of run)) (last_sink (net_of (job_of run)))) []
 

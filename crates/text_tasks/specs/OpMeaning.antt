@@ -52,9 +52,9 @@ has_more n text = nat_lt n (length (lines_of text))
 abbrev pub occurring : List (List ℕ) → List ℕ → List ℤ
 occurring words text = map pos (places (λ word. has_word word text) words)
 
--- What a task does on what it finds: it hands a text on, to those of its successors that the answer names; or, as a cell
--- of a pipeline, a token with its text; or it has a job run in its place; or it comes to nothing, since that job would
--- have so many parts, or since the least token that never passes is this one.
+-- What a task does on what it finds: it hands a text on, to those of its successors that the answer names; or, as a
+-- cell of a pipeline, a token with its text; or it has a job run in its place; or it comes to nothing, since that job
+-- would have so many parts, or since the least token that never passes is this one.
 pub data OpMeaning : Type 0 where
   hands_over : List ℕ → Answer → OpMeaning
   moves_on : CellItem → Answer → OpMeaning

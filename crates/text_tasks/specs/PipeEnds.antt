@@ -1,5 +1,5 @@
--- What a pipeline's run comes to: the texts with which the last pipe ends, in the order in which their tokens passed the
--- first one.
+-- What a pipeline's run comes to: the texts with which the last pipe ends, in the order in which their tokens passed
+-- the first one.
 use Rattle.std.specs.Prelude.{ℕ, ◌-◌, ◌%◌, ◌==◌, Bool, false, if◌then◌else◌, List, [], length, filter, Option, None}
 use Rattle.std.specs.List.{flat_map, last_or, range_with_len}
 use Rattle.std.specs.Option.{option_and_then, option_map_or}
@@ -18,7 +18,8 @@ use Rattle.text_tasks.specs.PipeWork.{PipeWork}
 abbrev pub in_last_pipe : ℕ → ℕ → Bool
 in_last_pipe pipes task = task % pipes == pipes - 1
 
--- whether the End of a cell of the last pipe stands at a place of the journal, with the token that has a place in the order
+-- whether the End of a cell of the last pipe stands at a place of the journal, with the token that has a place in the
+-- order
 abbrev pub ends_token : ℕ → List Entry → List (ValueRow Item) → ℕ → ℕ → Bool
 ends_token pipes journal values place n =
     if option_map_or (in_last_pipe pipes) (ended_at journal n) false then option_map_or (λ item. item_place item == place) (value_at values n) false else false

@@ -105,8 +105,8 @@ fn add_text(texts: &mut List<Text>, text: &Text) -> Result<(), NoMemory>
     Ok(())
 }
 
-// What a run ended with, by the numbers of tasks or by the places of tokens: where the last End of each is, and the value
-// of the End at each place of the journal.
+// What a run ended with, by the numbers of tasks or by the places of tokens: where the last End of each is, and the
+// value of the End at each place of the journal.
 #[derive(Drop)]
 pub(crate) struct LastValues {
     pub(crate) ends: Vec<Option<u64>>,

@@ -109,9 +109,10 @@ impl Job for TextJob {
 
     /// Does the work of a task's operation. It waits for nothing: a module, a spread and a pipeline are answered with
     /// the job that is to be run in the task's place. It faults with `Long` where the value, or the text with which a
-    /// module is started, would have more than 16,777,216 bytes, and with `Wide` where a text would have more than 65,536
-    /// parts. `Long` is found without putting the text together where that is the task's whole text, and `Wide` without
-    /// cutting any part. A cell of the first pipe faults with `Unmet` where no token passes any more and some are left.
+    /// module is started, would have more than 16,777,216 bytes, and with `Wide` where a text would have more than
+    /// 65,536 parts. `Long` is found without putting the text together where that is the task's whole text, and `Wide`
+    /// without cutting any part. A cell of the first pipe faults with `Unmet` where no token passes any more and some
+    /// are left.
     fn run(&self, alloc: Global, task: u32, ins: &Ins<Item>) -> Result<Done<TextJob>, JobError> {
         let done = match self {
             TextJob::Graph(job) => job.answer(alloc, task, ins)?,

@@ -1,12 +1,12 @@
 //! The tasks of graph files: what they find, what they make of it, and the jobs that do it.
 //!
-//! The layer above sees a job by its meaning (`text_job`). The definitions are in `specs/`. `OpMeaning` has a row for each
-//! operation, with the value that its task hands on and the successors that get it, or the job that is run in the task's
-//! place. `CellMeaning` says what the cells of a pipeline do with the token that they meet, and `Cells` which token that
-//! is. `JobMeaning` says what a task answers, when it faults, and to what the run in a task's place is gathered; `Sinks`
-//! and `PipeEnds` say which texts those are. `FoundTexts` says what the text of a task is, and `GraphWork`, `PartsWork`
-//! and `PipeWork` what a job consists of. What the operations make of texts is in `text_ops`, the shape of each
-//! operation's task in `graph_plans`, and the order in which tokens pass in `pipe_lines`.
+//! The layer above sees a job by its meaning (`text_job`). The definitions are in `specs/`. `OpMeaning` has a row for
+//! each operation, with the value that its task hands on and the successors that get it, or the job that is run in the
+//! task's place. `CellMeaning` says what the cells of a pipeline do with the token that they meet, and `Cells` which
+//! token that is. `JobMeaning` says what a task answers, when it faults, and to what the run in a task's place is
+//! gathered; `Sinks` and `PipeEnds` say which texts those are. `FoundTexts` says what the text of a task is, and
+//! `GraphWork`, `PartsWork` and `PipeWork` what a job consists of. What the operations make of texts is in `text_ops`,
+//! the shape of each operation's task in `graph_plans`, and the order in which tokens pass in `pipe_lines`.
 #![tactic(auto)]
 
 mod cell_inputs;

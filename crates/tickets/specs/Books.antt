@@ -2,7 +2,8 @@
 use Rattle.std.specs.Prelude.{ℕ, List, Option}
 use Rattle.atomic_table.specs.Seated.{TableId}
 
--- Which register a book is of, and the items that were ever issued, by number: Some item while it is outstanding, then None
+-- Which register a book is of, and the items that were ever issued, by number: Some item while it is outstanding, then
+-- None
 pub record BookState (X : Type 0) : Type 0 where
   pub register : TableId
   pub items : List (Option X)

@@ -29,8 +29,8 @@ module _ {J V X : Type 0} (alloc : Global) (watchers : Vec X Global) (crew : Cre
   watchers_seated : watchers_of seated ≡ map watcher_of seats.items
   watchers_seated = refl
 
-  -- One thread may always run a job, with at most one watcher; seats may where they are all seats of the crew, and none was ever
-  -- refused.
+  -- One thread may always run a job, with at most one watcher; seats may where they are all seats of the crew, and none
+  -- was ever refused.
   ready_alone : length watchers.items < 2 → IsReady alone
   ready_alone few = few
 

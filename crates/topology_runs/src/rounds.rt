@@ -26,8 +26,8 @@ pub struct Short<J: Recurs> {
 }
 
 /// Runs a job so many times, unless something is cut short in a run. The watchers, if there are any, are together told
-/// as many spans as the rounds have, with the runs inside them. `Err` comes only if an allocation fails; the team then runs
-/// no further job.
+/// as many spans as the rounds have, with the runs inside them. `Err` comes only if an allocation fails; the team then
+/// runs no further job.
 pub fn run_times<J: Recurs + Drop, X: Watch, E: EntersEach<J, X>, R: Threads + Wait + Sync>(
     rt: &R,
     alloc: Global,

@@ -118,8 +118,8 @@ fn run_watched<J: Job + Drop, X: Watch, R: Wait>(
     run_alone(rt, alloc, job, &mut watchers[0])
 }
 
-// Runs a job by the seats of a crew. If an allocation failed for one of them, none of them is at a run again, and the run
-// is given up, also where others have closed it.
+// Runs a job by the seats of a crew. If an allocation failed for one of them, none of them is at a run again, and the
+// run is given up, also where others have closed it.
 fn run_seated<J: Job + Drop, X: Watch, E: EntersEach<J, X>, R: Threads + Wait + Sync>(
     rt: &R,
     crew: &Crew<J>,

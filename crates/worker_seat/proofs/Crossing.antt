@@ -1,5 +1,5 @@
--- A crew may be shared by threads, and its seats may go to them: of the types that they are made of, one after the other,
--- since a search for all at once gives up.
+-- A crew may be shared by threads, and its seats may go to them: of the types that they are made of, one after the
+-- other, since a search for all at once gives up.
 use denote.RattleType.{RattleType}
 use denote.Param.Send.{IsSend, IsSync, sendable}
 use denote.Param.SendFields.{as_row_send, declared_send}

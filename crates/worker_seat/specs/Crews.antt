@@ -44,7 +44,8 @@ pub record AreAtOneRun {J V X : Type 0} (tellers : ℕ) (seats : List (WorkerSea
   pub count : book.tellers ≡ tellers
   pub each : All (MayHaveBook book) seats
 
--- These are all seats of a crew: as many as were made with it. A seat can't be copied. Those that are at a run are at the same one
+-- These are all seats of a crew: as many as were made with it. A seat can't be copied. Those that are at a run are at
+-- the same one
 pub record AreSeatsOf {J V X : Type 0} (crew : Crew J V) (seats : List (WorkerSeat J X V)) : Type 0 where
   pub of_crew : All (IsSeatOf crew) seats
   pub count : length seats ≡ (crew_of crew).seats
@@ -70,7 +71,8 @@ pub record MayEnter {J V X : Type 0} (crew : Crew J V) (seat : WorkerSeat J X V)
 abbrev pub IsToldMore : {X : Type 0} → (X → ℕ) → ℕ → X → X → Type 0
 IsToldMore told n old new = IsToldSince told (told old) n new
 
--- a seat that has found its run closed, in which its steps ended so many spans more, and its watcher, which was told as many
+-- a seat that has found its run closed, in which its steps ended so many spans more, and its watcher, which was told as
+-- many
 pub record HasWorked {J X : Type 0} (told : X → ℕ) (old : SeatState J) (watcher : X) (new : SeatState J) (now : X) : Type 0 where
   pub count : ℕ
   pub state : new ≡ found_closed count old
@@ -98,7 +100,8 @@ HasFound seat = (state_of seat).closed ≡ true
 abbrev pub IsServed : {J V X : Type 0} → WorkerSeat J X V → Type 0
 IsServed seat = (state_of seat).refused ≡ false
 
--- seats before a run and after it: the watcher of each for which no allocation has failed was told as many spans as its steps ended
+-- seats before a run and after it: the watcher of each for which no allocation has failed was told as many spans as its
+-- steps ended
 abbrev pub AreWatched : {J V X : Type 0} → (X → ℕ) → List (WorkerSeat J X V) → List (WorkerSeat J X V) → Type 0
 AreWatched {J} {V} {X} told old new = (k : ℕ) (seat : WorkerSeat J X V) → k < length old → IsServed (slice_index_or new k seat)
     → IsToldMore told (told_in_run (slice_index_or new k seat)) (watcher_of (slice_index_or old k seat)) (watcher_of (slice_index_or new k seat))

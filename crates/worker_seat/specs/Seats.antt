@@ -23,9 +23,9 @@ pub record RunBook : Type 0 where
 abbrev pub run_book : TableId → ℕ → RunBook
 run_book name tellers = record { name = name; tellers = tellers }
 
--- The list of the seat's crew; the job of the run that the seat is at, if it is at one, and the book of that run's spans; whether
--- it has found that run closed; whether an allocation has ever failed for it; and how many spans its steps ended in the run that
--- it is at, or was at last, as far as it has found that run closed
+-- The list of the seat's crew; the job of the run that the seat is at, if it is at one, and the book of that run's
+-- spans; whether it has found that run closed; whether an allocation has ever failed for it; and how many spans its
+-- steps ended in the run that it is at, or was at last, as far as it has found that run closed
 pub record SeatState (J : Type 0) : Type 0 where
   pub list : ListName
   pub job : Option J
@@ -43,7 +43,8 @@ abbrev pub IsBusy : {J : Type 0} → Option J → Type 0
 IsBusy None = ⊥
 IsBusy (Some job) = Unit {0}
 
--- the seat after it went to a run of a job, after it found it closed where its steps ended so many spans more, after it left it
+-- the seat after it went to a run of a job, after it found it closed where its steps ended so many spans more, after it
+-- left it
 abbrev pub at_job : {J : Type 0} → J → RunBook → SeatState J → SeatState J
 at_job j b seat = record seat { job = Some j; book = Some b; closed = false; told = 0 }
 

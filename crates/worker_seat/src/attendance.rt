@@ -43,8 +43,9 @@ pub struct FetchedRun<J: Job> {
 impl<J: Job + Drop> Attendance<J> {
     ghost use Rattle.worker_seat.specs.inside.Attendances.{IsFetched, TellsMore, collected};
 
-    /// Works at the run, if the seat hasn't entered it yet, and looks then whether it is closed. The watcher is told each
-    /// span that a step here ends. The run is lost for the seat if it isn't closed then, or if an allocation failed here.
+    /// Works at the run, if the seat hasn't entered it yet, and looks then whether it is closed. The watcher is told
+    /// each span that a step here ends. The run is lost for the seat if it isn't closed then, or if an allocation
+    /// failed here.
     pub fn enter<X: Watch, R: Wait>(
         self,
         rt: &R,

@@ -79,8 +79,8 @@ impl<J: Job + Drop> Crew<J> {
         })
     }
 
-    /// Begins a run of a job, for all seats of this crew, with one book of its spans. None of them is at a run, and none
-    /// was ever refused. After an `Err`, which comes only if an allocation fails, all are refused.
+    /// Begins a run of a job, for all seats of this crew, with one book of its spans. None of them is at a run, and
+    /// none was ever refused. After an `Err`, which comes only if an allocation fails, all are refused.
     pub fn begin<X, R: Wait>(
         &self,
         rt: &R,

@@ -24,8 +24,8 @@ pub trait EntersEach<J: Job + Drop, X: Watch> {
 
 /// Runs a job to its end by all seats of a crew, which are at no run and were never refused. `None` comes only if an
 /// allocation fails. After a run they are at none; one of them may have been refused all the same, where an allocation
-/// failed for it and the run was closed by others. The watcher of a seat that wasn't was told as many spans as its steps
-/// ended, and if none was, these are as many as the run has, with the runs inside it.
+/// failed for it and the run was closed by others. The watcher of a seat that wasn't was told as many spans as its
+/// steps ended, and if none was, these are as many as the run has, with the runs inside it.
 pub fn run_by_seats<J: Job + Drop, X: Watch, E: EntersEach<J, X>, R: Threads + Wait + Sync>(
     rt: &R,
     crew: &Crew<J>,

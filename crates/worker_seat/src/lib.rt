@@ -3,11 +3,11 @@
 //! A crew has a list of ready releases (`ready_deques`) and a seat for each of its workers. `begin` begins a run of a
 //! job (`table_frames`) for all seats. Each seat is entered by a thread of the caller, which works until the run is
 //! closed: it takes a release from the list, takes its step, goes on with the first release that the step made and puts
-//! the others on the list. A step takes a lock only where releases wait for units of semaphores, or where it opens a run
-//! inside its own; what became of its release the worker gathers. Where it finds nothing on the list it gives the run
-//! what it has gathered, looks whether all that is left waits for units, and then sleeps until something is pushed. Who
-//! gives the last of it gets the closed run, leaves it for the others and closes the list, which wakes all. `finish`
-//! hands the run out.
+//! the others on the list. A step takes a lock only where releases wait for units of semaphores, or where it opens a
+//! run inside its own; what became of its release the worker gathers. Where it finds nothing on the list it gives the
+//! run what it has gathered, looks whether all that is left waits for units, and then sleeps until something is pushed.
+//! Who gives the last of it gets the closed run, leaves it for the others and closes the list, which wakes all.
+//! `finish` hands the run out.
 //!
 //! # Frames by number
 //!
@@ -36,8 +36,8 @@
 //! puts it back.
 //!
 //! If an allocation fails in one seat, a release may be lost, and the run is never closed. That seat closes the list,
-//! and all seats answer `NoMemory`, since none finds the run. Such a crew takes no further run. If the run is closed all
-//! the same, only the seat in which the allocation failed answers so.
+//! and all seats answer `NoMemory`, since none finds the run. Such a crew takes no further run. If the run is closed
+//! all the same, only the seat in which the allocation failed answers so.
 //!
 //! # The spans that watchers are told
 //!

@@ -79,8 +79,8 @@ pub fn refuse_all<J: Job + Drop, X>(seats: &mut [WorkerSeat<J, X>])
     }
 }
 
-/// All seats leave a run that was fetched, whose tally collects the tellers of those that have found it closed. If these
-/// are all tellers, they told as many spans as the run has.
+/// All seats leave a run that was fetched, whose tally collects the tellers of those that have found it closed. If
+/// these are all tellers, they told as many spans as the run has.
 pub fn leave_all<J: Job + Drop, X>(
     seats: &mut [WorkerSeat<J, X>],
     fetched: FetchedRun<J>,

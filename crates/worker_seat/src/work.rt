@@ -10,8 +10,8 @@ use span_profile::Watch;
 use std::alloc::Global;
 use table_frames::{Backlog, State};
 
-/// What a worker has done in a frame and not brought yet, with a number of the frame where it has one, and the teller of
-/// the spans that it has brought.
+/// What a worker has done in a frame and not brought yet, with a number of the frame where it has one, and the teller
+/// of the spans that it has brought.
 #[derive(Drop)]
 pub struct FrameWork<J: Job + Drop> {
     pub backlog: Backlog<J>,
@@ -46,8 +46,8 @@ impl<J: Job + Drop> FrameWork<J> {
         }
     }
 
-    /// Tells a watcher the span that ended in the frame around as a run inside it was brought, if that is over, by what is
-    /// with the run then.
+    /// Tells a watcher the span that ended in the frame around as a run inside it was brought, if that is over, by what
+    /// is with the run then.
     pub fn tell_bringing<X: Watch>(&self, state: &State<J>, watcher: &mut X) -> Result<(), NoMemory>
         ensures { OnOk result
             (TellsBringing X.told state.now self.now.backlog watcher.old watcher.new) }

@@ -25,8 +25,8 @@ events_left Waiting = 2
 events_left Open = 1
 events_left (Over value) = 0
 
--- What a pass has seen is a prefix of the rows, with all of its caller's. An open start has its task's work, and found the
--- values of the tasks named. An end that was recorded is at its index.
+-- What a pass has seen is a prefix of the rows, with all of its caller's. An open start has its task's work, and found
+-- the values of the tasks named. An end that was recorded is at its index.
 abbrev pub ItemFits : {W V : Type 0} → BookHistory W V → Outstanding W V → Type 0
 ItemFits book (Pass caller seen) =
     ((more : List AddRow) × (book.rows ≡ seen.value.items ++ more))
@@ -37,8 +37,9 @@ ItemFits book (Running task work ins) =
     × IsSomeAnd (slice_get book.rows task) (λ (row : AddRow). map arc_value ins.value ≡ found (value_at book.stages) row.after)
 ItemFits book (Recorded task place) = slice_get book.events place ≡ Some (Ended task)
 
--- The history is right, each task is as far as it says and has the other events to come, each value is one that the task's
--- work allows on the values of the tasks named, and what is outstanding fits, each caller, each task and each end once.
+-- The history is right, each task is as far as it says and has the other events to come, each value is one that the
+-- task's work allows on the values of the tasks named, and what is outstanding fits, each caller, each task and each
+-- end once.
 pub record KeepsBook {W V : Type 0} (answers : W → List V → V → Type 0) (book : BookHistory W V) : Type 0 where
   pub history : IsHistory book.callers book.rows book.events
   pub row_count : length book.rows ≤ task_limit

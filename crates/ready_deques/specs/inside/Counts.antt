@@ -24,7 +24,9 @@ IsSpare i = (8 < i) × (i < 272)
 abbrev pub total_words : List ℕ → ℕ
 total_words words = sum_by (λ n. n) words
 
--- The count word is the number of counts that the seats hold and of those that are spare: all words but the count word hold spare counts, so the sum of the words has the count word once more. The word can't wrap, as room bounds what may be added to it
+-- The count word is the number of counts that the seats hold and of those that are spare: all words but the count word
+-- hold spare counts, so the sum of the words has the count word once more. The word can't wrap, as room bounds what may
+-- be added to it
 pub record HoldsCounts (words : List ℕ) (views : List Counting) : Type 0 where
   pub size : length words ≡ 272
   pub word : count_word words + count_word words ≡ total_words words + total_count views

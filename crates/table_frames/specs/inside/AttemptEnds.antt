@@ -12,8 +12,8 @@ use Rattle.table_runs.specs.JournalFacts.{IsInJournal}
 use Rattle.table_runs.specs.Attempts.{release_tried, units_due}
 use Rattle.table_runs.specs.declared.attempt.Attempt.{Attempt}
 
--- One fate, which the job of the frame allows, is gathered. These releases were made, by the edges alone where the task isn't
--- released again, and others woken for the units that are back.
+-- One fate, which the job of the frame allows, is gathered. These releases were made, by the edges alone where the task
+-- isn't released again, and others woken for the units that are back.
 pub record Concludes {J V : Type 0} (meaning : Meaning J V) (frames : List (FrameKey J)) (attempt : Attempt J V) (old new : BacklogView J V) (made : List FreshState) : Type 0 where
   pub frame : FrameKey J
   pub around : List (FrameKey J)

@@ -38,8 +38,8 @@ pub record HasBack {J : Type 0} (frames : List (FrameKey J)) (n : ℕ) (returned
   pub is : IfSome returned (IsBackIn frames)
   pub spans : noted_by returned ≡ n
 
--- The spans of the runs that were made in place of the work of turns of these frames are those of one run that is over, if there is
--- one.
+-- The spans of the runs that were made in place of the work of turns of these frames are those of one run that is over,
+-- if there is one.
 pub record IsBackOf {J V : Type 0} (frames : List (FrameKey J)) (done : DoneTurns J V) (returned : Option SpansState) : Type 0 where
   pub back : HasBack frames (spans_inside done) returned
   pub some : IfSome returned (λ inner. done.batch.fates ≢ [])

@@ -14,8 +14,8 @@ use Rattle.table_runs.specs.Spans.{spans_kept}
 use Rattle.table_frames.specs.declared.locked_run.Taken.{Taken}
 use Rattle.table_frames.specs.declared.locked_run.Taken.TheVariants.{Aside, Kept}
 
--- what is under the lock of a frame: the keeper of its run, the account of its spans, and the start whose work the run is, if there
--- is one
+-- what is under the lock of a frame: the keeper of its run, the account of its spans, and the start whose work the run
+-- is, if there is one
 pub record LockedRunView (J V : Type 0) : Type 0 where
   pub kept : RunKeeperView J V
   pub spans : SpansState
@@ -68,8 +68,8 @@ pub record KeepsLast {J V : Type 0} (fates : List (Fate V)) (old new : LockedRun
   pub fates_are : new.kept.keeper.fates ≡ earlier ++ fates
   pub found : FindsOne (λ n. LeavesOf n left) old.kept.keeper.found new.kept.keeper.found
 
--- The run is over: the keeper tells a finished run, and each run that was opened inside it came back, so that its spans are all that
--- were noted.
+-- The run is over: the keeper tells a finished run, and each run that was opened inside it came back, so that its spans
+-- are all that were noted.
 pub record IsWhole {J V : Type 0} (meaning : Meaning J V) (locked : LockedRunView J V) : Type 0 where
   pub tells : TellsRun (meaning.net locked.kept.job) (meaning.limit locked.kept.job) (entries_told locked.kept.keeper.fates)
   pub back : locked.spans.back ≡ locked.spans.opened

@@ -9,8 +9,8 @@ use Rattle.table_frames.specs.Frames.{ReleaseView, release_in}
 use Rattle.table_frames.specs.declared.step_results.State.TheVariants.{Inner as InnerState}
 use Rattle.table_frames.specs.declared.step_results.Stepped.{Stepped}
 
--- A frame was made inside these. Its first releases are given out, and the next release of the task of the start whose work its run
--- is, if there is one.
+-- A frame was made inside these. Its first releases are given out, and the next release of the task of the start whose
+-- work its run is, if there is one.
 pub record OpensFrame {J V : Type 0} (meaning : Meaning J V) (frames : List (FrameKey J)) (inner : InnerBegun J V) (stepped : Stepped J V) : Type 0 where
   pub first : Vec (ReleaseView J)
   pub state : stepped.state ≡ InnerState first

@@ -21,7 +21,8 @@ use Rattle.table_frames.specs.declared.over.Kept.{Kept}
 use Rattle.table_frames.specs.declared.over.Over.{Over}
 use Rattle.table_frames.specs.declared.over.Over.TheVariants.{No, Alone, Inside}
 
--- A run that may be kept was inside the frame around, in place of the work of a start there, with this account of its spans.
+-- A run that may be kept was inside the frame around, in place of the work of a start there, with this account of its
+-- spans.
 pub record IsInnerOver {J V : Type 0} (meaning : Meaning J V) (inner : InnerOver J V) : Type 0 where
   pub frame : AtFrame (arc_value inner.parent) (λ key. inner.start.frame ≡ key)
   pub start : IsStartOf meaning (job_of inner.run) inner.start
@@ -58,8 +59,8 @@ frames_after frames No = frames
 frames_after frames (Alone closed) = frames
 frames_after frames (Inside inner) = []
 
--- Its start is used up in the frame around by one fate, which the job there allows with the run. That alone is in the backlog
--- then. The releases that its End made are by edges alone.
+-- Its start is used up in the frame around by one fate, which the job there allows with the run. That alone is in the
+-- backlog then. The releases that its End made are by edges alone.
 pub record Resumes {J V : Type 0} (meaning : Meaning J V) (inner : InnerOver J V) (released : List (ReleaseView J)) (new : BacklogView J V) : Type 0 where
   pub frame : FrameKey J
   pub around : List (FrameKey J)

@@ -14,8 +14,8 @@ use Rattle.table_steps.specs.declared.view.Note.TheVariants.{Duty, Sems, Has, Un
 use Rattle.table_steps.specs.inside.Kinds.{Lone}
 use Rattle.table_steps.specs.inside.Slots.{FindsFirst, after_lots}
 
--- HALT LOAD, by a turn that asks for an admission. One that finds the mark knows that the journal has a Fault; one that doesn't
--- may draw an admission.
+-- HALT LOAD, by a turn that asks for an admission. One that finds the mark knows that the journal has a Fault; one that
+-- doesn't may draw an admission.
 abbrev pub MayAsk : List Note → Type 0
 MayAsk (Duty (Collecting t cause taken left) ∷ Has Live ∷ rest) = Lone rest
 MayAsk _ = ⊥
@@ -49,8 +49,8 @@ abbrev pub marked : List Note → List Note
 marked (Duty (Owes []) ∷ Has Live ∷ Has ToMark ∷ rest) = Duty (Owes []) ∷ Has Live ∷ rest
 marked notes = notes
 
--- DROP DRAWN, of a release that was refused, at the limit or after a Fault, and has put its units back. What it found falls
--- away.
+-- DROP DRAWN, of a release that was refused, at the limit or after a Fault, and has put its units back. What it found
+-- falls away.
 abbrev pub MayDrop : List Note → Type 0
 MayDrop (Duty (Collecting t cause taken []) ∷ Has Over ∷ Sems Held [] ∷ rest) = FindsFirst taken rest × Lone rest
 MayDrop (Duty (Collecting t cause taken []) ∷ Has Live ∷ Has Halted ∷ Sems Held [] ∷ rest) = FindsFirst taken rest × Lone rest

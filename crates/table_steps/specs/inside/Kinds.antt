@@ -162,8 +162,8 @@ abbrev pub numbers_below : (ℕ → Bool) → ℕ → List ℕ
 numbers_below test zero = []
 numbers_below test (suc k) = add_if (test k) k (numbers_below test k)
 
--- Of the units that a turn holds, its start gives those back at its end that the task puts, and credits the others. What
--- the task puts besides is to be claimed.
+-- Of the units that a turn holds, its start gives those back at its end that the task puts, and credits the others.
+-- What the task puts besides is to be claimed.
 abbrev pub own_units : NetRows → ℕ → List ℕ → List ℕ
 own_units net t l = among (λ s. puts net s t) l
 
@@ -188,8 +188,8 @@ abbrev pub with_start_drawn : NetRows → ℕ → List Note → List Note
 with_start_drawn net n (Duty (Collecting t cause taken left) ∷ Duty Ticket ∷ Has Live ∷ Sems Held l ∷ rest) = started_notes net n t cause l (first_parts taken rest) ++ after_lots taken rest
 with_start_drawn net n notes = notes
 
--- END DRAWN, of a start with nothing left to credit and to claim. It owes the units that its task puts, and a parcel to each
--- edge that it gives.
+-- END DRAWN, of a start with nothing left to credit and to claim. It owes the units that its task puts, and a parcel to
+-- each edge that it gives.
 abbrev pub MayEnd : NetRows → List ℕ → Bool → List Note → Type 0
 MayEnd net gives inner (Duty (Open m t) ∷ Has Live ∷ Sems Both b ∷ Sems Credit c ∷ Sems Credited d ∷ Sems Claim l ∷ Sems Granted g ∷ rest) = MayEndGiving net t gives inner × (c ≡ []) × TakesAlone net t d × (l ≡ []) × PutsEach net t (g ++ b) × Lone rest
 MayEnd net gives inner _ = ⊥

@@ -27,9 +27,9 @@ abbrev pub part_times : Part → List Part → ℕ
 part_times p [] = 0
 part_times p (q ∷ ps) = one_if (same_part q p) + part_times p ps
 
--- P e p is how many parcels p of edge e the seats have; Q e p how many lie in the slot of e, or did when it was taken; F e
--- how many of the seats have a parcel of e whose token is still in the word; R e how many have put theirs and owe the token
--- still.
+-- P e p is how many parcels p of edge e the seats have; Q e p how many lie in the slot of e, or did when it was taken;
+-- F e how many of the seats have a parcel of e whose token is still in the word; R e how many have put theirs and owe
+-- the token still.
 pub record DataPart (net : NetRows) (journal : List Entry) (edge : ℕ → ℕ) (P Q : ℕ → Part → ℕ) (F R : ℕ → ℕ) : Type 0 where
   pub meets : MeetsDataRule net journal
   pub froms : (e n : ℕ) → P e (From n) + Q e (From n) + count_by (has_part net e (is_from n)) journal ≤ one_if (option_map_or (gives_edge e) (slice_get journal n) false)

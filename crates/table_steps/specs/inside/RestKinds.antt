@@ -1,5 +1,5 @@
--- What the steps of a rest ask of its seat's notes, and what they leave. What is known of the rest comes first, then its
--- turns, the last first, and then the Drops that it drew.
+-- What the steps of a rest ask of its seat's notes, and what they leave. What is known of the rest comes first, then
+-- its turns, the last first, and then the Drops that it drew.
 use Rattle.std.specs.Prelude.{◌≡◌, ◌≢◌, ◌==◌, ℕ, zero, suc, ◌<◌, ◌≤◌, Bool, true, false, nat_lt, List, [], ◌∷◌, ◌++◌, length, IsTrue}
 use Rattle.task_graph.specs.NetRows.{NetRows}
 use Rattle.journal_rules.specs.declared.entry.DropWhy.{DropWhy}

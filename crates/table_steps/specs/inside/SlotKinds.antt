@@ -43,8 +43,8 @@ abbrev pub MayTry : Bool → ℕ → List Note → Type 0
 MayTry true f v = MayTryPut f v
 MayTry false f v = MayTryTake f v
 
--- Where another turn holds the slot, it tries again. After the last try it gives up: it leaves its parcel away, or finds
--- nothing.
+-- Where another turn holds the slot, it tries again. After the last try it gives up: it leaves its parcel away, or
+-- finds nothing.
 abbrev pub missed : Bool → Bool → ℕ → List Note → List Note
 missed false puts f v = v
 missed true true f v = relot Ours Put (λ p. p) f v

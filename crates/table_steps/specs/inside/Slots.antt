@@ -78,9 +78,9 @@ holders T e = T (lot Putting e) + T (lot Taking e)
 abbrev pub lying : (SlotCoord → ℕ) → (ℕ → List Part) → ℕ → Part → ℕ
 lying T label e p = part_times p (label e) + T (queue (part_times p) e)
 
--- The account of slots: of each token that is owed the parcel is still to be put, or it is put; of each that is still to
--- be collected the parcel is still to be taken, or it is taken; and each that is collected has its parcel. Who holds a
--- slot knows what lay there. There are no more parcels than tokens were given.
+-- The account of slots: of each token that is owed the parcel is still to be put, or it is put; of each that is still
+-- to be collected the parcel is still to be taken, or it is taken; and each that is collected has its parcel. Who holds
+-- a slot knows what lay there. There are no more parcels than tokens were given.
 pub record SlotPart (net : NetRows) (journal : List Entry) (edge : ℕ → ℕ) (T : SlotCoord → ℕ) (label : ℕ → List Part) : Type 0 where
   pub parts : DataPart net journal edge (λ e p. T (parcel e p)) (lying T label) (λ e. T (lot Fetched e)) (λ e. T (lot Put e))
   pub owing : (e : ℕ) → T (lot Ours e) + T (lot Putting e) + T (lot Put e) ≡ T (owed e)

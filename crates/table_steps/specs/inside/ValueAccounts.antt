@@ -10,8 +10,8 @@ use Rattle.table_steps.specs.Values.{given_parts, values_in, AreValues}
 use Rattle.table_steps.specs.inside.SeatViews.{notes_alone}
 use Rattle.table_steps.specs.inside.Accounts.{KeepsAccounts}
 
--- No End has two values: what the seats know of values, and the parcels in each slot, agree. A place that isn't drawn yet has
--- none.
+-- No End has two values: what the seats know of values, and the parcels in each slot, agree. A place that isn't drawn
+-- yet has none.
 pub record KeepsValues {V : Type 0} (s : State (List (Given V)) (SeatView V)) : Type 0 where
   pub value_at : ℕ → Option V
   pub views : (id : ℕ) (v : SeatView V) → get_elem? s.views id ≡ some v → AreValues value_at v.values

@@ -10,6 +10,7 @@ probes = 16
 abbrev pub hash_of : List ℕ → ℕ
 hash_of bytes = folding.finish (folding.write folding.initial bytes)
 
--- the first slot that is looked at for bytes, of so many slots: none of the last ones, so that each is followed by as many as are looked at
+-- the first slot that is looked at for bytes, of so many slots: none of the last ones, so that each is followed by as
+-- many as are looked at
 abbrev pub first_slot : List ℕ → ℕ → ℕ
 first_slot bytes slots = (hash_of bytes / 2 ^ 32 * (slots - probes)) % 2 ^ 64 / 2 ^ 32

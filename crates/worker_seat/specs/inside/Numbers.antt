@@ -12,7 +12,8 @@ shelf_names shelves = map (λ (shelf : Named). shelf.id) shelves.buckets
 abbrev pub IsShownBy : {T : Type 0} → List ℕ → Where T → Type 0
 IsShownBy names token = token.row ≡ slice_index_or names token.bucket 0
 
--- the number of a frame: the name of the crew's numbered frames, the index there, and the keys of the frame and of those around it
+-- the number of a frame: the name of the crew's numbered frames, the index there, and the keys of the frame and of
+-- those around it
 pub record NumberView (J : Type 0) : Type 0 where
   pub begun : List ℕ
   pub index : ℕ

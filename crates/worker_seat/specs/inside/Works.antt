@@ -19,8 +19,8 @@ pub record IsAt {J : Type 0} (number : NumberView J) (frames : List (FrameKey J)
   pub frames_are : at.frames ≡ frames
   pub within : IsWithin number.frames frames
 
--- It is of a frame of the run with this number, or of none. Where a number is there, it is of that frame. The teller is of the
--- book of the run's spans.
+-- It is of a frame of the run with this number, or of none. Where a number is there, it is of that frame. The teller is
+-- of the book of the run's spans.
 pub record IsWorkOf {J V : Type 0} (number : NumberView J) (work : FrameWork J V) : Type 0 where
   pub within : (work.backlog.frames ≡ []) ⊎ IsWithin number.frames work.backlog.frames
   pub at : IfSome work.frame (λ at. (at.begun ≡ number.begun) × ((work.backlog.frames ≡ []) ⊎ (work.backlog.frames ≡ at.frames)))
@@ -38,7 +38,8 @@ KeepsTold told old_work old new_work new = TellsOn told (spans_ended old_work) (
 abbrev pub TellsNewest : {J V X : Type 0} → (X → ℕ) → BacklogView J V → X → X → Type 0
 TellsNewest {J} {V} told backlog old new = (n : ℕ) (earlier : List (Fate V)) (fate : Fate V) → backlog.fates ≡ earlier ++ fate ∷ [] → TellsOn told n (n + spans_in (fate ∷ [])) old new
 
--- after a step, by what is with the run then: where it used its release up, a watcher was told the span that it ended, if it ended one
+-- after a step, by what is with the run then: where it used its release up, a watcher was told the span that it ended,
+-- if it ended one
 abbrev pub TellsStep : {J V X : Type 0} → (X → ℕ) → State J V → BacklogView J V → X → X → Type 0
 TellsStep told Went backlog old new = TellsNewest told backlog old new
 TellsStep told _ backlog old new = new ≡ old
@@ -61,8 +62,8 @@ OpensIn number (Inner first) = AreOfFrame number first.items × (first.items ≢
 OpensIn number (Resumed released) = Unit {0}
 OpensIn number (Closed closed) = Unit {0}
 
--- What a bringing leaves of it: nothing but its frame; where a run inside is over, the frame around, of which these releases are; or
--- the whole run is over.
+-- What a bringing leaves of it: nothing but its frame; where a run inside is over, the frame around, of which these
+-- releases are; or the whole run is over.
 abbrev pub LeavesWork : {J V : Type 0} → Meaning J V → J → TableId → NumberView J → FrameWork J V → State J V → Type 0
 LeavesWork meaning job book number work Went = IsWorkOf number work × (work.backlog.fates ≡ []) × (work.backlog.frames ≢ [])
 LeavesWork meaning job book number work (Parked turn) = ⊥
