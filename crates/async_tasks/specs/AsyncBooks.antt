@@ -36,29 +36,29 @@ abbrev pub IsOwnerAt : TableId → OwnerState → Type 0
 IsOwnerAt counts owner = (owner.tag ≡ []) × (owner.counts ≡ counts)
 
 -- A seat: its owner of a list of ready tasks, and the end of the task that it ran last, if it ran one
-pub record SeatState : Type 0 where
+pub record AsyncSeatState : Type 0 where
   pub owner : OwnerState
   pub last : Option EndRecord
 
-abbrev pub seat_state : OwnerState → Option EndRecord → SeatState
-seat_state owner last = record { owner = owner; last = last }
+abbrev pub async_seat_state : OwnerState → Option EndRecord → AsyncSeatState
+async_seat_state owner last = record { owner = owner; last = last }
 
 -- the owner that a seat has is one of this book's list, and its last end was recorded by this book
-pub record IsSeatOf (book : AsyncBookState) (seat : SeatState) : Type 0 where
+pub record IsSeatOf (book : AsyncBookState) (seat : AsyncSeatState) : Type 0 where
   pub owner : IsOwnerAt book.counts seat.owner
   pub last : IfSome seat.last (λ (end : EndRecord). end.register ≡ book.register)
 
 -- a seat has an owner of this list, and ran no task
-abbrev pub IsNewSeatOf : {T : Type 0} → Ready T → SeatState → Type 0
+abbrev pub IsNewSeatOf : {T : Type 0} → Ready T → AsyncSeatState → Type 0
 IsNewSeatOf ready seat = IsOwnerOf ready seat.owner × (seat.last ≡ None)
 
 -- the seat was given the end of this task, which the book recorded after the end that the seat had
-abbrev pub HasRun : AsyncBookState → SeatState → ℕ → SeatState → Type 0
+abbrev pub HasRun : AsyncBookState → AsyncSeatState → ℕ → AsyncSeatState → Type 0
 HasRun book old task new =
     IsSomeAnd new.last (λ (end : EndRecord). (end.register ≡ book.register) × (end.task ≡ task) × IsAfter old.last end.place)
 
 -- A step names the task whose end the seat was given, or found the list of ready tasks empty.
-abbrev pub HasStepped : AsyncBookState → SeatState → AsyncStep → SeatState → Type 0
+abbrev pub HasStepped : AsyncBookState → AsyncSeatState → AsyncStep → AsyncSeatState → Type 0
 HasStepped book old (Ran task) new = HasRun book old task new
 HasStepped book old Empty new = (old.owner.zeros < new.owner.zeros) × (new.last ≡ old.last)
 

@@ -35,11 +35,11 @@ pub struct AsyncSeat<W: AsyncWork> {
 }
 
 impl<W: AsyncWork> Model for AsyncSeat<W> {
-    ghost use Rattle.async_tasks.specs.AsyncBooks.{SeatState, seat_state};
+    ghost use Rattle.async_tasks.specs.AsyncBooks.{AsyncSeatState, async_seat_state};
 
-    ghost Value = { SeatState };
+    ghost Value = { AsyncSeatState };
 
-    ghost view = { λ seat. seat_state seat.owner seat.last };
+    ghost view = { λ seat. async_seat_state seat.owner seat.last };
 }
 
 impl<W: AsyncWork> AsyncSeat<W> {

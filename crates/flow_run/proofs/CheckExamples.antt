@@ -21,7 +21,7 @@ use Rattle.flow_run.specs.declared.conclusion.Conclusion.TheVariants as conclusi
 use Rattle.flow_run.specs.declared.conclusion.GraphFindings.{GraphFindings}
 use Rattle.flow_run.specs.Requests.{SourceTexts, StopsAtPlan, StopsAtBytes}
 use Rattle.flow_run.specs.PlanFiles.{StopsAtFile, StopsBeforePlan, IsAfterConclusion, HoldsPlan}
-use Rattle.flow_run.specs.Checks.{AreFindingsOn, AreFindingsOnAll, IsChecked, EndsChecked, CheckEnds, count_line, finding_count, finding_line, findings_text, graph_line, graph_lines, line_start, task_line}
+use Rattle.flow_run.specs.Checks.{AreFindingsOn, AreFindingsOnAll, IsChecked, EndsChecked, CheckEnds, findings_count_line, finding_count, finding_line, findings_text, graph_line, graph_lines, line_start, task_line}
 use Rattle.flow_run.specs.Answers.{conclusion_text, output_of, runs_text}
 use Rattle.flow_run.proofs.Completing.{one_plan}
 
@@ -105,7 +105,7 @@ nothing_found : findings_text (on_top [] ∷ on_module [] ∷ []) ≡ codes "fin
 unfolding digits
 nothing_found = refl
 
-twelve_found : count_line 12 ≡ codes "findings 12\n"
+twelve_found : findings_count_line 12 ≡ codes "findings 12\n"
 unfolding digits
 twelve_found = refl
 

@@ -77,9 +77,9 @@ abbrev pub finding_count : List GraphFindings → ℕ
 finding_count found = sum_by (λ (on : GraphFindings). length on.findings) found
 
 -- the last line, which says how many findings there are
-abbrev pub count_line : ℕ → List ℕ
-count_line count = codes "findings " ++ decimal count ++ codes "\n"
+abbrev pub findings_count_line : ℕ → List ℕ
+findings_count_line count = codes "findings " ++ decimal count ++ codes "\n"
 
 -- what is written of the findings on some graphs: a line for each, graph by graph, and their number
 abbrev pub findings_text : List GraphFindings → List ℕ
-findings_text found = flat_map graph_lines found ++ count_line (finding_count found)
+findings_text found = flat_map graph_lines found ++ findings_count_line (finding_count found)

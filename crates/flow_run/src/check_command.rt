@@ -6,7 +6,7 @@ ghost use Rattle.graph_plans.specs.PlanRows.{IsPlan, graph_rows, graphs_of, plan
 ghost use Rattle.pitfall_check.specs.Pitfalls.{BeginsWithoutTokens};
 ghost use Rattle.call_status.specs.Delivery.{Delivers};
 ghost use Rattle.flow_run.specs.Answers.{HasWritten, conclusion_text};
-ghost use Rattle.flow_run.specs.Checks.{AreFindingsOn, AreFindingsOnAll, CheckEnds, IsChecked, count_line, finding_count, finding_line, findings_text, graph_line, graph_lines};
+ghost use Rattle.flow_run.specs.Checks.{AreFindingsOn, AreFindingsOnAll, CheckEnds, IsChecked, findings_count_line, finding_count, finding_line, findings_text, graph_line, graph_lines};
 ghost use Rattle.flow_run.specs.PlanFiles.{IsAfterConclusion, StopsBeforePlan};
 ghost use Rattle.flow_run.specs.Reads.{FailsBy, HaveRead};
 
@@ -187,7 +187,7 @@ fn put_finding<S: Sink>(
 // Writes the line that says how many findings there are.
 #[tactic(auto, using(outside_io::proofs::Pieces::writes_nothing))]
 fn put_count<S: Sink>(alloc: Global, out: &mut S, found: &[GraphFindings]) -> Result<(), SinkFault>
-    ensures { Writes (S.state out.old) (S.state out.new) (count_line (finding_count found.now))
+    ensures { Writes (S.state out.old) (S.state out.new) (findings_count_line (finding_count found.now))
         result }
 {
     let line = line_of_count(alloc, count_of(found)?)?;
@@ -255,7 +255,7 @@ fn name_of(on: &GraphFindings, task: u32) -> &[u8]
 
 // The line that says how many findings there are.
 fn line_of_count(alloc: Global, count: u64) -> Result<Bytes, NoMemory>
-    ensures { IfOk result (λ line. line ≡ count_line count) }
+    ensures { IfOk result (λ line. line ≡ findings_count_line count) }
 {
     let mut line = List::new(alloc);
     add_numbered(&mut line, b"findings ", count)?;

@@ -52,11 +52,11 @@ fn read_json<'v>(
 {
     match Value::from_slice(alloc, bytes, scratch) {
         Ok(file) => Ok(file),
-        Err(unread) => Err(refusal_of(unread)),
+        Err(unread) => Err(unread_refusal(unread)),
     }
 }
 
-fn refusal_of(unread: Unread) -> GraphError
+fn unread_refusal(unread: Unread) -> GraphError
     ensures { result ≢ GraphError.NoMemory
         → (unread ≡ Unread.NotJson) × (result ≡ GraphError.NotJson) }
 {

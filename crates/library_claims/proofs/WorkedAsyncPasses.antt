@@ -22,7 +22,7 @@ use Rattle.async_tasks.specs.Histories.{times_started, times_ended, kept_of, fou
 use Rattle.async_tasks.specs.Books.{BookHistory, BookKey, book_history, value_at, holder_of, caller_of, task_of, end_at, NothingOut}
 use Rattle.async_tasks.specs.Starts.{IsTicketFor, IsPassFor, rows_seen, HasSeen, IsFreshPass, EndRecord, end_record, IsEndAt, IsAfter}
 use Rattle.async_tasks.specs.Passes.{PassState, pass_state, IsHeld, IsTicketOf, rows_in, number_in, seen, looked, kept, LooksAgain, HasLooked, HaveLooked}
-use Rattle.async_tasks.specs.AsyncBooks.{AsyncBookState, async_book_state, counts_of, IsPassOf, HasAdded, SeatState, seat_state, IsSeatOf, IsNewSeatOf, HasRun, HasStepped, ArePassesOf, AreFirstPasses, caller_limit, IsOwnerAt}
+use Rattle.async_tasks.specs.AsyncBooks.{AsyncBookState, async_book_state, counts_of, IsPassOf, HasAdded, AsyncSeatState, async_seat_state, IsSeatOf, IsNewSeatOf, HasRun, HasStepped, ArePassesOf, AreFirstPasses, caller_limit, IsOwnerAt}
 use Rattle.async_tasks.specs.Runs.{IsAsyncRun}
 use Rattle.async_tasks.specs.Finishes.{IsDone, IsOpenAt, HaveSeen, HaveTickets, IsFinished}
 use Rattle.library_claims.proofs.WorkedHistories.{add}
@@ -139,38 +139,38 @@ module _ (r s : TableId) (other : s ≢ r) (fewer more : Snapshot (Vec AddRow Gl
   at_another_place = ((λ h. absurd (omega (arith, (h.each 0 old refl).1))), (λ h. absurd (omega (arith, (h 0 old refl).1))))
 
   -- a seat is of the book's list, and the book recorded its last end
-  seats : (owner : OwnerState) → owner.tag ≡ [] → owner.counts ≡ s → IsSeatOf book (seat_state owner None) × IsSeatOf book (seat_state owner (Some (end_record r 4 9))) × IsOwnerAt s owner
+  seats : (owner : OwnerState) → owner.tag ≡ [] → owner.counts ≡ s → IsSeatOf book (async_seat_state owner None) × IsSeatOf book (async_seat_state owner (Some (end_record r 4 9))) × IsOwnerAt s owner
   seats owner tag counts = (record { owner = (tag, counts); last = tt }, record { owner = (tag, counts); last = refl }, (tag, counts))
 
-  seat_of_another_list : (owner : OwnerState) → owner.counts ≡ r → ¬ IsSeatOf book (seat_state owner None) × ¬ IsOwnerAt s owner
+  seat_of_another_list : (owner : OwnerState) → owner.counts ≡ r → ¬ IsSeatOf book (async_seat_state owner None) × ¬ IsOwnerAt s owner
   seat_of_another_list owner counts = ((λ h. other (sym h.owner.1 ∙ counts)), (λ h. other (sym h.1 ∙ counts)))
 
-  seat_of_a_tagged_list : (owner : OwnerState) → owner.tag ≡ 7 ∷ [] → ¬ IsSeatOf book (seat_state owner None) × ¬ IsOwnerAt s owner
+  seat_of_a_tagged_list : (owner : OwnerState) → owner.tag ≡ 7 ∷ [] → ¬ IsSeatOf book (async_seat_state owner None) × ¬ IsOwnerAt s owner
   seat_of_a_tagged_list owner tag = ((λ h. let e = sym tag ∙ h.owner.0 in absurd (cc)), (λ h. let e = sym tag ∙ h.0 in absurd (cc)))
 
-  seat_with_another_end : (owner : OwnerState) → ¬ IsSeatOf book (seat_state owner (Some (end_record s 4 9)))
+  seat_with_another_end : (owner : OwnerState) → ¬ IsSeatOf book (async_seat_state owner (Some (end_record s 4 9)))
   seat_with_another_end owner h = other h.last
 
   -- a step names the task whose end the seat was given, which comes after the end that it had
-  abbrev ran_4 : OwnerState → SeatState
-  ran_4 owner = seat_state owner (Some (end_record r 4 9))
+  abbrev ran_4 : OwnerState → AsyncSeatState
+  ran_4 owner = async_seat_state owner (Some (end_record r 4 9))
 
-  ran : (owner : OwnerState) → HasStepped book (seat_state owner None) (Ran 4) (ran_4 owner) × HasStepped book (ran_4 owner) (Ran 5) (seat_state owner (Some (end_record r 5 12)))
+  ran : (owner : OwnerState) → HasStepped book (async_seat_state owner None) (Ran 4) (ran_4 owner) × HasStepped book (ran_4 owner) (Ran 5) (async_seat_state owner (Some (end_record r 5 12)))
   ran owner = ((refl, refl, tt), (refl, refl, omega arith))
 
-  ran_without_an_end : (owner : OwnerState) → ¬ HasStepped book (seat_state owner None) (Ran 4) (seat_state owner None)
+  ran_without_an_end : (owner : OwnerState) → ¬ HasStepped book (async_seat_state owner None) (Ran 4) (async_seat_state owner None)
   ran_without_an_end owner h = h
 
-  ran_another : (owner : OwnerState) → ¬ HasRun book (seat_state owner None) 5 (ran_4 owner)
+  ran_another : (owner : OwnerState) → ¬ HasRun book (async_seat_state owner None) 5 (ran_4 owner)
   ran_another owner h = absurd (omega (arith, h.1))
 
-  ran_before : (owner : OwnerState) → ¬ HasRun book (ran_4 owner) 4 (ran_4 owner) × ¬ HasRun book (ran_4 owner) 5 (seat_state owner (Some (end_record r 5 8)))
+  ran_before : (owner : OwnerState) → ¬ HasRun book (ran_4 owner) 4 (ran_4 owner) × ¬ HasRun book (ran_4 owner) 5 (async_seat_state owner (Some (end_record r 5 8)))
   ran_before owner = ((λ h. let e = h.2 in absurd (omega arith)), (λ h. let e = h.2 in absurd (omega arith)))
 
-  ran_elsewhere : (owner : OwnerState) → ¬ HasRun book (seat_state owner None) 4 (seat_state owner (Some (end_record s 4 9)))
+  ran_elsewhere : (owner : OwnerState) → ¬ HasRun book (async_seat_state owner None) 4 (async_seat_state owner (Some (end_record s 4 9)))
   ran_elsewhere owner h = other h.0
 
-  found_empty : (owner later : OwnerState) → owner.zeros ≡ 3 → later.zeros ≡ 4 → HasStepped book (ran_4 owner) Empty (ran_4 later) × ¬ HasStepped book (ran_4 owner) Empty (seat_state later None)
+  found_empty : (owner later : OwnerState) → owner.zeros ≡ 3 → later.zeros ≡ 4 → HasStepped book (ran_4 owner) Empty (ran_4 later) × ¬ HasStepped book (ran_4 owner) Empty (async_seat_state later None)
   found_empty owner later before after = ((omega (arith, before, after), refl), (λ h. let e = h.1 in absurd (cc)))
 
   found_nothing : (owner : OwnerState) → ¬ HasStepped book (ran_4 owner) Empty (ran_4 owner)
@@ -332,5 +332,5 @@ counts_of_a_list : (ready : Ready ℕ) (r : TableId) → ready.counter.table.sha
 counts_of_a_list ready r same = same
 
 -- a new seat has an owner of the list, and ran nothing
-new_seats : (ready : Ready ℕ) (owner : OwnerState) (last : EndRecord) → IsOwnerOf ready owner → IsNewSeatOf ready (seat_state owner None) × ¬ IsNewSeatOf ready (seat_state owner (Some last))
+new_seats : (ready : Ready ℕ) (owner : OwnerState) (last : EndRecord) → IsOwnerOf ready owner → IsNewSeatOf ready (async_seat_state owner None) × ¬ IsNewSeatOf ready (async_seat_state owner (Some last))
 new_seats ready owner last own = ((own, refl), (λ h. let e = h.1 in absurd (cc)))

@@ -96,13 +96,14 @@ pub fn unnamed<T: Tagged + Drop>(alloc: Global, room: usize) -> Result<ItemWorke
     Ok(Worker::lifo_as(alloc, room)?)
 }
 
-/// So one whose items are all taken by stealers, who find it empty only if it is.
+/// An empty deque without a name, with room for so many items at first, whose owner only pushes. Stealers find it empty
+/// only if it is.
 #[tactic(auto, using(crate::proofs::Holding::begins))]
 pub fn unnamed_queue<T: Tagged + Drop>(
     alloc: Global,
     room: usize,
 ) -> Result<ItemWorker<T>, NoMemory>
-    ensures { IfOk result (λ worker. worker_view worker ≡ None) }
+    ensures { IfOk result (λ worker. (worker_flavor worker ≡ 0) × (worker_view worker ≡ None)) }
 {
     Ok(Worker::fifo_as(alloc, room)?)
 }

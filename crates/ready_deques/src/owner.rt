@@ -65,7 +65,7 @@ impl<T: Tagged> Model for Owner<T> {
 }
 
 // Queues an item in the owner's deque, or else in the one for items from outside.
-fn put<T: Tagged, R: Wait>(
+fn queue_item<T: Tagged, R: Wait>(
     ready: &Ready<T>,
     rt: &R,
     worker: &mut ItemWorker<T>,
@@ -78,7 +78,7 @@ fn put<T: Tagged, R: Wait>(
 {
     match deque::push(worker, queued) {
         Ok(()) => Ok(()),
-        Err(queued) => ready.put(rt, queued),
+        Err(queued) => ready.queue_outside(rt, queued),
     }
 }
 
@@ -115,7 +115,7 @@ impl<T: Tagged> Owner<T> {
     {
         let seat = self.ready.counter.count(rt, &mut self.account);
         let queued = Queued { item, seat };
-        match put(&self.ready, rt, &mut self.worker, queued) {
+        match queue_item(&self.ready, rt, &mut self.worker, queued) {
             Ok(()) => {
                 self.ready.sleepers.wake_one();
                 Ok(())

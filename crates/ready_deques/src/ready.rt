@@ -69,7 +69,7 @@ impl<T: Tagged> Ready<T> {
         ensures back { IfErr result (λ back. back.item ≡ item) }
     {
         let seat = self.counter.raise(rt);
-        match self.put(rt, Queued { item, seat }) {
+        match self.queue_outside(rt, Queued { item, seat }) {
             Ok(()) => {
                 self.sleepers.wake_one();
                 Ok(())
@@ -119,7 +119,7 @@ impl<T: Tagged> Ready<T> {
     }
 
     // Queues an item in the deque for those from outside.
-    pub(crate) fn put<R: Wait>(&self, rt: &R, queued: Queued<T>) -> Result<(), Queued<T>>
+    pub(crate) fn queue_outside<R: Wait>(&self, rt: &R, queued: Queued<T>) -> Result<(), Queued<T>>
         requires { IsKnown T.tag (Some (list_name_of self.now)) (queued ∷ []) }
         ensures { IfErr result (λ back. back ≡ queued) }
     {

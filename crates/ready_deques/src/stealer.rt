@@ -1,4 +1,4 @@
-// A stealer of another owner's deque.
+// A stealer of one deque of a list.
 ghost use Rattle.std.specs.Prelude.{◌≡◌, ◌∷◌, [], All, Some, IfOk, IfSome};
 ghost use Rattle.crossbeam_deque.specs.Handles.{view, IsPassOf, stealer_deque, worker_flavor, worker_view};
 ghost use Rattle.ready_deques.specs.inside.ListNames.{IsKnown};

@@ -3,7 +3,7 @@ use Rattle.std.proofs.Common.{◌≡◌, ◌∙◌, ℕ, zero, suc, ◌<◌, Lis
 use Rattle.std.specs.Prelude.{slice_get, All}
 use Rattle.std.proofs.lemmas.Option.{slice_get-get_or}
 use Rattle.async_tasks.specs.Passes.{PassState}
-use Rattle.async_tasks.specs.AsyncBooks.{AsyncBookState, SeatState, ArePassesOf, IsPassOf, IsSeatOf}
+use Rattle.async_tasks.specs.AsyncBooks.{AsyncBookState, AsyncSeatState, ArePassesOf, IsPassOf, IsSeatOf}
 
 module _ {W V : Type 0} where
   pub first_pass : (book : AsyncBookState) (passes : List (PassState W V)) (pass : PassState W V) → ArePassesOf book passes → book.callers ≡ 1 → pass ≡ get_or passes 0 pass → IsPassOf book pass × (pass.caller ≡ 0)
@@ -24,5 +24,5 @@ module _ {W V : Type 0} where
           some_same e = cc
       by_place (suc c) p at = absurd (cc)
 
-pub first_seat : (book : AsyncBookState) (seats : List SeatState) (seat : SeatState) → All (IsSeatOf book) seats → length seats ≡ 1 → seat ≡ get_or seats 0 seat → IsSeatOf book seat
+pub first_seat : (book : AsyncBookState) (seats : List AsyncSeatState) (seat : AsyncSeatState) → All (IsSeatOf book) seats → length seats ≡ 1 → seat ≡ get_or seats 0 seat → IsSeatOf book seat
 first_seat book seats seat all one at = subst (IsSeatOf book) (sym at) (all 0 seat (omega (arith, one)))

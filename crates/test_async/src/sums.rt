@@ -1,7 +1,8 @@
 // A book of sums by one caller and one worker.
+use crate::add_to::AddTo;
 use crate::alone::{Alone, Outcome};
 use crate::judged::{printed, verdict_on};
-use async_tasks::{AsyncStep, TaskEvent};
+use async_tasks::{AsyncRun, AsyncStep, TaskEvent};
 use legal_run::Verdict;
 use std::test::Fail;
 
@@ -23,6 +24,16 @@ start 2 strong 1,3,3
 end 4 - plain
 ";
 
+// Whether each of these tasks has its value.
+fn has_values(run: &AsyncRun<AddTo>, values: &[(u32, u64)]) -> bool {
+    for (task, value) in values {
+        if !run.value(*task).is_some_and(|found| **found == *value) {
+            return false;
+        }
+    }
+    true
+}
+
 // 1 after nothing, 2 after the first, 4 after the first and twice the second.
 #[test]
 fn each_sum_finds_the_values_of_the_tasks_it_names(rt: HostRuntime) -> Result<(), Fail> {
@@ -34,12 +45,7 @@ fn each_sum_finds_the_values_of_the_tasks_it_names(rt: HostRuntime) -> Result<()
     let Outcome::Done(run) = alone.finish(&rt, rt.alloc())? else {
         panic!(rt; "a task has no end")
     };
-    for (task, value) in [(0, 1), (1, 3), (2, 11)] {
-        assert!(rt;
-            run.value(task).is_some_and(|found| **found == value),
-            "task {task}"
-        );
-    }
+    assert!(rt; has_values(&run, [(0, 1), (1, 3), (2, 11)].as_slice()));
     assert!(rt; run.events.as_slice() == EVENTS.as_slice());
     assert!(rt; printed(rt.alloc(), &run)?.bytes() == JOURNAL.as_bytes());
     assert_eq!(rt; verdict_on(rt.alloc(), &run)?, Verdict::Complete);
@@ -58,12 +64,7 @@ fn all_that_one_end_makes_ready_are_run(rt: HostRuntime) -> Result<(), Fail> {
     let Outcome::Done(run) = alone.finish(&rt, rt.alloc())? else {
         panic!(rt; "a task has no end")
     };
-    for (task, value) in [(0, 1), (1, 2), (2, 2), (3, 7)] {
-        assert!(rt;
-            run.value(task).is_some_and(|found| **found == value),
-            "task {task}"
-        );
-    }
+    assert!(rt; has_values(&run, [(0, 1), (1, 2), (2, 2), (3, 7)].as_slice()));
     assert_eq!(rt; verdict_on(rt.alloc(), &run)?, Verdict::Complete);
     Ok(())
 }

@@ -368,7 +368,7 @@ fn is_answered(alloc: Global, run: &SmallRun<'_>) -> Result<bool, Fail> {
     let mut taken = Vec::new(alloc);
     for (step, answer) in run.steps {
         taken.push(*step)?;
-        let refused = refusal_of(judged(alloc, &net, run.limit, taken.as_slice())?);
+        let refused = broken_rule_of(judged(alloc, &net, run.limit, taken.as_slice())?);
         if ask(&mut machine, *step) != *answer || refused != answer.err() {
             return Ok(false);
         }
@@ -379,7 +379,7 @@ fn is_answered(alloc: Global, run: &SmallRun<'_>) -> Result<bool, Fail> {
     Ok(machine.at_rest() == run.is_at_rest)
 }
 
-fn refusal_of(verdict: Verdict) -> Option<MachineError> {
+fn broken_rule_of(verdict: Verdict) -> Option<MachineError> {
     match verdict {
         Verdict::Breaks(_, broken) => Some(broken.into()),
         _ => None,

@@ -7,4 +7,4 @@ pub returns-in-Ok : goal.returns-in-Ok
 returns-in-Ok c = json_in-ok c.args.bytes.now (view c.in-Ok.file) c.in-Ok.ensures.ok
 
 pub returns-in-Err : goal.returns-in-Err
-returns-in-Err c sure = json_in-refused c.args.bytes.now (c.in-Err.ensures.refused (ap Err (c.refusal_of.ensures sure).0)) ∙ ap Err (sym (c.refusal_of.ensures sure).1)
+returns-in-Err c sure = json_in-refused c.args.bytes.now (c.in-Err.ensures.refused (ap Err (c.unread_refusal.ensures sure).0)) ∙ ap Err (sym (c.unread_refusal.ensures sure).1)
