@@ -38,7 +38,7 @@ digits_on-up_to (suc n) x (p ∷ ps) (q ∷ qs) bytes le =
     (λ is more. let never : false ≡ true = sym (ap (λ o. is_le (ordering_then o (line_cmp ps qs))) is) ∙ le in cc)
 
 pub lead_of-up_to : (a b : List ℕ) → ((k : ℕ) → get_or a k 0 < 256) → IsUpTo a b → lead_of a ≤ lead_of b
-lead_of-up_to a b bytes le = digits_on-up_to 8 0 a b bytes le
+lead_of-up_to a b bytes le = digits_on-up_to 6 0 a b bytes le
 
 -- how numbers compare
 less_is : (x y : ℕ) → x < y → nat_cmp x y ≡ Less
@@ -78,7 +78,7 @@ digits_on-behind (suc n) x (p ∷ ps) (q ∷ qs) bytes others same =
     (λ is more. absurd (omega (arith, same, digits_on-less n (x * 256 + q) (x * 256 + p) qs ps (AreBytes-rest q qs others) (omega arith))))
 
 pub lead_of-behind : (a b : List ℕ) → ((k : ℕ) → get_or a k 0 < 256) → ((k : ℕ) → get_or b k 0 < 256) → lead_of a ≡ lead_of b → behind_leads_cmp a b ≡ line_cmp a b
-lead_of-behind a b bytes others same = digits_on-behind 8 0 a b bytes others same
+lead_of-behind a b bytes others same = digits_on-behind 6 0 a b bytes others same
 
 -- Sort keys that aren't the other way round stand for pieces that aren't.
 reversed : (a b : List ℕ) → line_cmp a b ≡ ordering_reverse (line_cmp b a)

@@ -9,6 +9,7 @@ pub mod CountLemmas
 pub mod CutLemmas
 pub mod PartLemmas
 pub mod LineSteps
+pub mod FittingKeys
 pub mod RepeatLemmas
 pub mod SortKeyLemmas
 pub mod OrderLemmas

@@ -3,7 +3,7 @@ ghost use Rattle.std.specs.Prelude.{◌≡◌, ◌+◌, ◌<◌, ◌^◌, length
 ghost use Rattle.text_ops.specs.inside.KeySlots.{AreFilled, look_up};
 
 use crate::slots::{PROBES, Probed, first_slot};
-use crate::sort_key::{Offset, SortKey};
+use crate::sort_key::{KeyForm, SortKey};
 use crate::sort_keys::keyed_piece;
 use outside_io::NoMemory;
 use std::alloc::Global;
@@ -16,10 +16,10 @@ const MOST_ROWS: usize = 1 << 22;
 
 /// Slots that lead from the hash of each key to the first of the sort keys that stand for it. A free slot names no sort
 /// key. `None`: too many keys have hashes that lead to the same slots, or there are too many sort keys.
-pub(crate) fn filled_slots<O: Offset>(
+pub(crate) fn filled_slots<K: KeyForm>(
     alloc: Global,
     text: &[u8],
-    rows: &[SortKey<O>],
+    rows: &[SortKey<K>],
 ) -> Result<Option<Vec<u32>>, NoMemory>
     ensures { IfOk result (λ found. IfSome found (λ slots.
         AreFilled text.now rows.now slots.items (length rows.now))) }
@@ -38,9 +38,9 @@ pub(crate) fn filled_slots<O: Offset>(
 }
 
 /// Looks for a key by its hash.
-pub(crate) fn look_up<O: Offset>(
+pub(crate) fn look_up<K: KeyForm>(
     text: &[u8],
-    rows: &[SortKey<O>],
+    rows: &[SortKey<K>],
     slots: &[u32],
     key: &[u8],
 ) -> Probed
@@ -64,7 +64,7 @@ pub(crate) fn look_up<O: Offset>(
 }
 
 // Fills a slot with a sort key, unless one before it stands for the same key. `false`: there is no free slot for it.
-fn fill<O: Offset>(text: &[u8], rows: &[SortKey<O>], slots: &mut [u32], row: usize) -> bool
+fn fill<K: KeyForm>(text: &[u8], rows: &[SortKey<K>], slots: &mut [u32], row: usize) -> bool
     requires within { row < length rows.now }
     requires short { row < 2 ^ 32 }
     ensures filled { IsTrue result → AreFilled text.now rows.now slots.old row

@@ -28,6 +28,7 @@ mod numbers;
 mod order;
 mod part;
 mod repeats;
+mod short_keys;
 mod slots;
 mod sort_key;
 mod sort_keys;

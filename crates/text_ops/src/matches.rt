@@ -1,20 +1,21 @@
 // Lines joined with what others have behind the same key.
-ghost use Rattle.std.specs.Prelude.{◌≡◌, ◌≤◌, length};
+ghost use Rattle.std.specs.Prelude.{◌≡◌};
 ghost use Rattle.std.specs.Option.{option_copied, option_map};
 ghost use Rattle.text_ops.specs.Lines.{IsNormal, lines_of};
 ghost use Rattle.text_ops.specs.MatchKeys.{behind_key, first_with};
 ghost use Rattle.text_ops.specs.TextMeaning.{match_meaning};
 ghost use Rattle.text_ops.specs.Values.{Makes};
 ghost use Rattle.text_ops.specs.declared.sort_key.Piece.TheVariants.{Key as KeyPiece};
-ghost use Rattle.text_ops.specs.inside.SortKeys.{AreSortedKeys, lead_of};
+ghost use Rattle.text_ops.specs.inside.SortKeys.{AreSortedKeys, KeysFit, lead_of};
 ghost use Rattle.text_ops.specs.inside.KeySlots.{LeadToFirst};
 ghost use Rattle.text_ops.specs.inside.Matching.{IsFirstPlace, behind_sort_key, is_before};
 
 use crate::gathered::{ApplyError, Gathered};
 use crate::key_slots::{filled_slots, look_up};
 use crate::line_walk::Lines;
+use crate::short_keys::short_keys_fit;
 use crate::slots::Probed;
-use crate::sort_key::{Offset, Piece, SortKey};
+use crate::sort_key::{KeyForm, LongKey, Piece, ShortKey, SortKey};
 use crate::sort_keys::{keyed_piece, lead, match_key, order_keys, sort_keys_of};
 use crate::text::Text;
 use memchr::memchr;
@@ -27,23 +28,23 @@ pub fn match_lines(alloc: Global, left: &Text, right: &Text) -> Result<Text, App
     ensures { Makes (match_meaning left.now right.now) result }
 {
     let (lines, others) = (left.as_slice(), right.as_slice());
-    if others.len() <= u32::MAX as usize {
-        return match_by_sort_keys::<u32>(alloc, lines, others);
+    if short_keys_fit(others) {
+        return match_by_sort_keys::<ShortKey>(alloc, lines, others);
     }
-    match_by_sort_keys::<usize>(alloc, lines, others)
+    match_by_sort_keys::<LongKey>(alloc, lines, others)
 }
 
-fn match_by_sort_keys<O: Offset>(
+fn match_by_sort_keys<K: KeyForm>(
     alloc: Global,
     left: &[u8],
     right: &[u8],
 ) -> Result<Text, ApplyError>
     requires left { IsNormal left.now }
     requires right { IsNormal right.now }
-    requires short { length right.now ≤ O.most }
+    requires fit { KeysFit K.most_start K.most_len right.now }
     ensures { Makes (match_meaning left.now right.now) result }
 {
-    let mut sort_keys = sort_keys_of::<O>(alloc, right, Piece::Key)?;
+    let mut sort_keys = sort_keys_of::<K>(alloc, right, Piece::Key)?;
     if let Some(slots) = filled_slots(alloc, right, sort_keys.as_slice())? {
         return match_by_slots(alloc, left, right, sort_keys.as_slice(), slots.as_slice());
     }
@@ -52,11 +53,11 @@ fn match_by_sort_keys<O: Offset>(
 }
 
 // The same, where slots lead to the first line with a key.
-fn match_by_slots<O: Offset>(
+fn match_by_slots<K: KeyForm>(
     alloc: Global,
     left: &[u8],
     right: &[u8],
-    sort_keys: &[SortKey<O>],
+    sort_keys: &[SortKey<K>],
     slots: &[u32],
 ) -> Result<Text, ApplyError>
     requires left { IsNormal left.now }
@@ -74,9 +75,9 @@ fn match_by_slots<O: Offset>(
 }
 
 // What follows this key in the first line that has it, by slots.
-fn behind_found<'t, O: Offset>(
+fn behind_found<'t, K: KeyForm>(
     text: &'t [u8],
-    sort_keys: &[SortKey<O>],
+    sort_keys: &[SortKey<K>],
     slots: &[u32],
     key: &[u8],
 ) -> Option<&'t [u8]>
@@ -92,11 +93,11 @@ fn behind_found<'t, O: Offset>(
 }
 
 // The same as `match_by_slots`, by a search among sort keys in order.
-fn match_in_order<O: Offset>(
+fn match_in_order<K: KeyForm>(
     alloc: Global,
     left: &[u8],
     right: &[u8],
-    sort_keys: &[SortKey<O>],
+    sort_keys: &[SortKey<K>],
 ) -> Result<Text, ApplyError>
     requires left { IsNormal left.now }
     requires right { IsNormal right.now }
@@ -113,9 +114,9 @@ fn match_in_order<O: Offset>(
 }
 
 // What follows this key in the first line that has it.
-fn behind_first<'t, O: Offset>(
+fn behind_first<'t, K: KeyForm>(
     text: &'t [u8],
-    sort_keys: &[SortKey<O>],
+    sort_keys: &[SortKey<K>],
     key: &[u8],
 ) -> Option<&'t [u8]>
     requires sort_keys { AreSortedKeys KeyPiece text.now sort_keys.now }
@@ -132,7 +133,7 @@ fn behind_first<'t, O: Offset>(
 }
 
 // How many sort keys have a key below this one.
-fn first_place<O: Offset>(text: &[u8], sort_keys: &[SortKey<O>], key: &[u8]) -> usize
+fn first_place<K: KeyForm>(text: &[u8], sort_keys: &[SortKey<K>], key: &[u8]) -> usize
     requires sort_keys { AreSortedKeys KeyPiece text.now sort_keys.now }
     requires normal { IsNormal text.now }
     ensures { IsFirstPlace text.now key.now sort_keys.now result }
@@ -142,7 +143,7 @@ fn first_place<O: Offset>(text: &[u8], sort_keys: &[SortKey<O>], key: &[u8]) -> 
 }
 
 // Whether a sort key's key is below this one, whose lead is given.
-fn is_before<O: Offset>(text: &[u8], sort_key: &SortKey<O>, lead: u64, key: &[u8]) -> bool
+fn is_before<K: KeyForm>(text: &[u8], sort_key: &SortKey<K>, lead: u64, key: &[u8]) -> bool
     requires { lead ≡ lead_of key.now }
     ensures { result ≡ is_before text.now key.now sort_key.now }
 {
@@ -153,7 +154,7 @@ fn is_before<O: Offset>(text: &[u8], sort_key: &SortKey<O>, lead: u64, key: &[u8
 }
 
 // What follows a sort key in its line.
-fn behind<'t, O: Offset>(text: &'t [u8], sort_key: &SortKey<O>) -> &'t [u8]
+fn behind<'t, K: KeyForm>(text: &'t [u8], sort_key: &SortKey<K>) -> &'t [u8]
     ensures { result.now ≡ behind_sort_key text.now sort_key.now }
 {
     let start = sort_key

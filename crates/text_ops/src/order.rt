@@ -1,13 +1,14 @@
 // The lines in order.
 ghost use Rattle.std.specs.Prelude.{◌≡◌, ◌++◌, ℕ, List, OnOk};
-ghost use Rattle.text_ops.specs.Lines.{ended};
+ghost use Rattle.text_ops.specs.Lines.{IsNormal, ended};
 ghost use Rattle.text_ops.specs.TextMeaning.{sort_meaning};
 ghost use Rattle.text_ops.specs.Values.{Makes};
 ghost use Rattle.text_ops.specs.inside.Gathering.{IsGathered};
-ghost use Rattle.text_ops.specs.inside.SortKeys.{keyed_piece, IsEndedKey};
+ghost use Rattle.text_ops.specs.inside.SortKeys.{keyed_piece, IsEndedKey, KeysFit};
 
 use crate::gathered::{ApplyError, Gathered, VALUE_LIMIT};
-use crate::sort_key::{Offset, Piece, SortKey};
+use crate::short_keys::short_keys_fit;
+use crate::sort_key::{KeyForm, LEAD_BYTES, LongKey, Piece, ShortKey, SortKey};
 use crate::sort_keys::{keyed_with_end, sorted_keys};
 use crate::text::Text;
 use outside_io::NoMemory;
@@ -25,12 +26,23 @@ pub fn sort(alloc: Global, text: &Text) -> Result<Text, ApplyError>
     if len > VALUE_LIMIT {
         return Err(ApplyError::Long(len));
     }
-    let mut sort_keys = sorted_keys::<u32>(alloc, bytes, Piece::Whole)?;
+    if short_keys_fit(bytes) {
+        return sort_by_keys::<ShortKey>(alloc, bytes);
+    }
+    sort_by_keys::<LongKey>(alloc, bytes)
+}
+
+fn sort_by_keys<K: KeyForm>(alloc: Global, text: &[u8]) -> Result<Text, ApplyError>
+    requires normal { IsNormal text.now }
+    requires fit { KeysFit K.most_start K.most_len text.now }
+    ensures { Makes (sort_meaning text.now) result }
+{
+    let mut sort_keys = sorted_keys::<K>(alloc, text, Piece::Whole)?;
     // So that the first is taken off the end.
     sort_keys.reverse();
-    let mut made = Gathered::with_room(alloc, bytes.len())?;
+    let mut made = Gathered::with_room(alloc, text.len())?;
     while let Some(sort_key) = sort_keys.pop() {
-        add_keyed_line(&mut made, bytes, &sort_key)?;
+        add_keyed_line(&mut made, text, &sort_key)?;
         give_back_memory(&mut sort_keys);
     }
     made.finish(alloc)
@@ -38,7 +50,7 @@ pub fn sort(alloc: Global, text: &Text) -> Result<Text, ApplyError>
 
 // Now and then gives back the memory of sort keys that were taken off the end. So a text and its sort keys are not all
 // in memory beside all that is made of them: memory of a text with room for it isn't used before bytes are put there.
-fn give_back_memory<O: Offset>(sort_keys: &mut Vec<SortKey<O>>)
+fn give_back_memory<K: KeyForm>(sort_keys: &mut Vec<SortKey<K>>)
     ensures { sort_keys.new.items ≡ sort_keys.old.items }
 {
     if sort_keys.len() % KEYS_AT_ONCE == 0 {
@@ -46,22 +58,23 @@ fn give_back_memory<O: Offset>(sort_keys: &mut Vec<SortKey<O>>)
     }
 }
 
-// Adds the line of a sort key, with its end. The lead has eight bytes, so that a line of at most seven and its end fit
-// there. Such a line isn't read from the text again, in which lines that are neighbours in order lie far apart.
-fn add_keyed_line<O: Offset>(
+// Adds the line of a sort key, with its end. The bytes of a line of at most six are those of its lead, so that it isn't
+// read from the text again, in which lines that are neighbours in order lie far apart.
+fn add_keyed_line<K: KeyForm>(
     made: &mut Gathered,
     text: &[u8],
-    sort_key: &SortKey<O>,
+    sort_key: &SortKey<K>,
 ) -> Result<(), NoMemory>
     requires { IsEndedKey text.now sort_key.now }
     ensures { (all : List ℕ) → IsGathered all made.old
         → OnOk result (IsGathered (all ++ ended (keyed_piece text.now sort_key.now)) made.new) }
 {
     let len = sort_key.len();
-    let mut line = sort_key.lead().to_be_bytes();
-    if len >= line.len() {
+    if len > LEAD_BYTES {
         return made.add(keyed_with_end(text, sort_key));
     }
+    // With two bytes of room behind the lead.
+    let mut line = (sort_key.lead() << 16).to_be_bytes();
     line[len] = b'\n';
     made.add(&line[..len + 1])
 }

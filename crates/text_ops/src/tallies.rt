@@ -1,18 +1,19 @@
 // How often each line occurs in a text.
-ghost use Rattle.std.specs.Prelude.{◌≡◌, ◌<◌, ◌≤◌, ◌++◌, ◌∷◌, ℕ, List, length, map, decimal, OnOk};
+ghost use Rattle.std.specs.Prelude.{◌≡◌, ◌<◌, ◌++◌, ◌∷◌, ℕ, List, length, map, decimal, OnOk};
 ghost use Rattle.text_ops.specs.Lines.{IsNormal, ended};
 ghost use Rattle.text_ops.specs.MatchKeys.{space};
 ghost use Rattle.text_ops.specs.TextMeaning.{tally_meaning};
 ghost use Rattle.text_ops.specs.Values.{Makes};
 ghost use Rattle.text_ops.specs.inside.Counting.{AreDifferentLines};
 ghost use Rattle.text_ops.specs.inside.Gathering.{IsGathered};
-ghost use Rattle.text_ops.specs.inside.SortKeys.{keyed_piece};
+ghost use Rattle.text_ops.specs.inside.SortKeys.{KeysFit, keyed_piece};
 ghost use Rattle.text_ops.specs.inside.Tallying.{run_of};
 
 use crate::counted_line::CountedLine;
 use crate::counted_lines::counted_lines;
 use crate::gathered::{ApplyError, Gathered};
-use crate::sort_key::{Offset, Piece, SortKey};
+use crate::short_keys::short_keys_fit;
+use crate::sort_key::{KeyForm, LongKey, Piece, ShortKey, SortKey};
 use crate::sort_keys::{keyed_piece, sorted_keys};
 use crate::text::Text;
 use itoa::write_digits;
@@ -27,10 +28,10 @@ pub fn tally(alloc: Global, text: &Text) -> Result<Text, ApplyError>
     if let Some(rows) = counted_lines(alloc, bytes)? {
         return tally_of_rows(alloc, rows.as_slice());
     }
-    if bytes.len() <= u32::MAX as usize {
-        return tally_by_sort_keys::<u32>(alloc, bytes);
+    if short_keys_fit(bytes) {
+        return tally_by_sort_keys::<ShortKey>(alloc, bytes);
     }
-    tally_by_sort_keys::<usize>(alloc, bytes)
+    tally_by_sort_keys::<LongKey>(alloc, bytes)
 }
 
 // Each line behind its count.
@@ -44,12 +45,12 @@ fn tally_of_rows(alloc: Global, rows: &[CountedLine<'_>]) -> Result<Text, ApplyE
     made.finish(alloc)
 }
 
-fn tally_by_sort_keys<O: Offset>(alloc: Global, text: &[u8]) -> Result<Text, ApplyError>
+fn tally_by_sort_keys<K: KeyForm>(alloc: Global, text: &[u8]) -> Result<Text, ApplyError>
     requires normal { IsNormal text.now }
-    requires short { length text.now ≤ O.most }
+    requires fit { KeysFit K.most_start K.most_len text.now }
     ensures { Makes (tally_meaning text.now) result }
 {
-    let sort_keys = sorted_keys::<O>(alloc, text, Piece::Whole)?;
+    let sort_keys = sorted_keys::<K>(alloc, text, Piece::Whole)?;
     let sort_keys = sort_keys.as_slice();
     let mut made = Gathered::new(alloc);
     let mut at = 0;
@@ -62,7 +63,7 @@ fn tally_by_sort_keys<O: Offset>(alloc: Global, text: &[u8]) -> Result<Text, App
 }
 
 // How many sort keys, from the first on, stand for the same line as the first.
-fn run_length<O: Offset>(text: &[u8], sort_keys: &[SortKey<O>]) -> usize
+fn run_length<K: KeyForm>(text: &[u8], sort_keys: &[SortKey<K>]) -> usize
     requires { 0 < length sort_keys.now }
     ensures { result ≡ run_of (map (keyed_piece text.now) sort_keys.now) }
 {
