@@ -15,7 +15,7 @@ use Rattle.text_ops.specs.Lines.{lines_of, text_of}
 use Rattle.text_ops.specs.LineOrder.{line_cmp, IsUpTo, in_order}
 use Rattle.text_ops.specs.Repeats.{changes, without_repeats, count_of}
 use Rattle.text_ops.specs.TextMeaning.{tally_line, tally_meaning, numbered_line}
-use Rattle.text_ops.specs.inside.Counting.{counted_in, times_counted, AreRising, AreDifferentLines, row_line}
+use Rattle.text_ops.specs.inside.Counting.{counted_in, times_counted, AreRisingLines, AreDifferentLines, counted_row_line}
 use Rattle.text_ops.proofs.OrderLemmas.{Rises, IsUpTo-refl, IsUpTo-trans, IsUpTo-antisym, Rises-in_order, IsPermutation-in_order, count_of-cons, count_of-permutation, same_rising}
 use Rattle.text_ops.proofs.TallyLemmas.{count_of-append}
 
@@ -43,7 +43,7 @@ Climbs [] = Unit {0}
 Climbs (r ∷ []) = Unit {0}
 Climbs (r ∷ s ∷ rest) = IsBelow r.line.now s.line.now × Climbs (s ∷ rest)
 
-climbs : (rows : List CountedLine) → AreRising rows → Climbs rows
+climbs : (rows : List CountedLine) → AreRisingLines rows → Climbs rows
 climbs [] up = tt
 climbs (r ∷ []) up = tt
 climbs (r ∷ s ∷ rest) up = (
@@ -163,7 +163,7 @@ each_once (r ∷ rest) up =
 
 -- each row has its line's count
 module _ (lines : List (List ℕ)) where
-  row_lines : (rows : List CountedLine) → Climbs rows → ((v : List ℕ) → 1 ≤ times_counted v rows → count_of v lines ≡ times_counted v rows) → map row_line rows ≡ map (tally_line lines) (lines_in rows)
+  row_lines : (rows : List CountedLine) → Climbs rows → ((v : List ℕ) → 1 ≤ times_counted v rows → count_of v lines ≡ times_counted v rows) → map counted_row_line rows ≡ map (tally_line lines) (lines_in rows)
   row_lines [] up same = refl
   row_lines (r ∷ rest) up same =
       let line = r.line.now in
@@ -171,7 +171,7 @@ module _ (lines : List (List ℕ)) where
       let own = sum_by-cons (counted_in line) r rest in
       let its = cond-true (bytes_eq line line) r.count 0 ((bytes_eq-Decides line line).1 refl) in
       let here : count_of line lines ≡ r.count = omega (arith, same line (omega (arith, own, its, r.some)), own, its, none) in
-      ap (λ n. numbered_line n line ∷ map row_line rest) (sym here)
+      ap (λ n. numbered_line n line ∷ map counted_row_line rest) (sym here)
       ∙ ap (λ l. tally_line lines line ∷ l) (row_lines rest (behind r rest up) (λ v some.
       let other : bytes_eq v line ≡ false = false_from_ne_true (bytes_eq v line) (λ yes. let is = (bytes_eq-Decides v line).0 yes in absurd (omega (arith, none, ap (λ l. times_counted l rest) is))) in
       let left = sum_by-cons (counted_in v) r rest in
@@ -185,7 +185,7 @@ module _ (text : List ℕ) (rows : List CountedLine) (are : AreDifferentLines te
       same_rising (all_lines rows) (in_order (lines_of text)) (Rises-all rows (climbs rows are.rising)) (Rises-in_order (lines_of text))
       (λ v. count_all v rows ∙ are.counts v ∙ sym (count_of-permutation v (lines_of text) (in_order (lines_of text)) (IsPermutation-in_order (lines_of text))))
 
-  pub tally_is : text_of (map row_line rows) ≡ tally_meaning text
+  pub tally_is : text_of (map counted_row_line rows) ≡ tally_meaning text
   tally_is =
       let up = climbs rows are.rising in
       ap text_of (row_lines (lines_of text) rows up (λ v some. sym (are.counts v)))

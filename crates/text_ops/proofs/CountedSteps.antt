@@ -7,7 +7,7 @@ use Rattle.text_ops.specs.declared.counted_line.CountedLine.{CountedLine}
 use Rattle.text_ops.specs.declared.gathered.Gathered.{Gathered}
 use Rattle.text_ops.specs.Lines.{lines_of, text_of, ended}
 use Rattle.text_ops.specs.Repeats.{count_of}
-use Rattle.text_ops.specs.inside.Counting.{counted_in, times_counted, CountsSoFar, row_line}
+use Rattle.text_ops.specs.inside.Counting.{counted_in, times_counted, CountsSoFar, counted_row_line}
 use Rattle.text_ops.specs.inside.Gathering.{IsGathered}
 use Rattle.text_ops.proofs.SortLemmas.{text_of-more}
 
@@ -18,8 +18,8 @@ CountsSoFar-end text rows moved lines so_far none is v =
     omega (arith, so_far v, no_more, sum_by-IsPermutation (counted_in v) rows moved is)
 
 -- one more row is put
-pub rows-next : (rows : List CountedLine) (place : ℕ) (made next : Gathered) (d : CountedLine) → IsGathered (text_of (map row_line (take place rows))) made → place < length rows → ((all : List ℕ) → IsGathered all made → IsGathered (all ++ ended (row_line (get_or rows place d))) next) → IsGathered (text_of (map row_line (take (place + 1) rows))) next
+pub rows-next : (rows : List CountedLine) (place : ℕ) (made next : Gathered) (d : CountedLine) → IsGathered (text_of (map counted_row_line (take place rows))) made → place < length rows → ((all : List ℕ) → IsGathered all made → IsGathered (all ++ ended (counted_row_line (get_or rows place d))) next) → IsGathered (text_of (map counted_row_line (take (place + 1) rows))) next
 rows-next rows place made next d gathered within put =
-    let lines = map row_line (take place rows) in
-    let more = text_of-more lines (row_line (get_or rows place d)) ∙ ap text_of (sym (map_more row_line rows place d within)) in
+    let lines = map counted_row_line (take place rows) in
+    let more = text_of-more lines (counted_row_line (get_or rows place d)) ∙ ap text_of (sym (map_more counted_row_line rows place d within)) in
     subst (λ all. IsGathered all next) more (put (text_of lines) gathered)

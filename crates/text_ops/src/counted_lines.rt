@@ -1,7 +1,7 @@
 // The different lines of a text that has few of them, each with how often it occurs.
 ghost use Rattle.std.specs.Prelude.{IfOk, IfSome, IsTrue, OnOk};
 ghost use Rattle.text_ops.specs.Lines.{IsNormal};
-ghost use Rattle.text_ops.specs.inside.Counting.{AreDifferentLines, AreRising, CountsOneMore, IsFound};
+ghost use Rattle.text_ops.specs.inside.Counting.{AreDifferentLines, AreRisingLines, CountsOneMore, IsFound};
 
 use crate::counted_line::CountedLine;
 use crate::line_ends::line_ends;
@@ -32,7 +32,7 @@ pub(crate) fn counted_lines<'t>(
         if rows.len() > most {
             return Ok(None);
         }
-        count_line(&mut rows, &mut slots, line)?;
+        count_in_table(&mut rows, &mut slots, line)?;
     }
     rows.sort_unstable_by(|a, b| a.line.cmp(b.line));
     if !are_rising(rows.as_slice()) {
@@ -42,7 +42,7 @@ pub(crate) fn counted_lines<'t>(
 }
 
 // Counts a line. The slots are only hints: a line that they don't lead to gets one more row.
-fn count_line<'t>(
+fn count_in_table<'t>(
     rows: &mut Vec<CountedLine<'t>>,
     slots: &mut [u32],
     line: &'t [u8],
@@ -91,7 +91,7 @@ fn find(rows: &[CountedLine<'_>], slots: &[u32], line: &[u8]) -> Probed
 
 // Whether each line is less than the next.
 fn are_rising(rows: &[CountedLine<'_>]) -> bool
-    ensures { IsTrue result → AreRising rows.now }
+    ensures { IsTrue result → AreRisingLines rows.now }
 {
     for k in 1..rows.len() {
         if !rows[k - 1].line.cmp(rows[k].line).is_lt() {

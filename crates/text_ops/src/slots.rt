@@ -11,11 +11,11 @@ pub(crate) const PROBES: usize = 16;
 /// What slots say of a key or a line.
 #[derive(Clone, Copy)]
 pub(crate) enum Probed {
-    /// The row that it has.
+    /// The row that they name for it.
     Row(usize),
-    /// It has none. This slot is free for one.
+    /// None. This slot is free for one.
     Free(usize),
-    /// It has none, and no slot is free.
+    /// None, and no slot is free.
     Crowded,
 }
 

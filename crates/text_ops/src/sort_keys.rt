@@ -14,8 +14,7 @@ use outside_io::NoMemory;
 use std::alloc::Global;
 use std::cmp::Ordering;
 
-// Sort keys of these pieces of the lines, in the order of their bytes. Sort keys of equal keys are in the order of the
-// lines.
+// Sort keys of these pieces of the lines, in the order of their bytes.
 pub(crate) fn sorted_keys<K: KeyForm>(
     alloc: Global,
     text: &[u8],
@@ -131,7 +130,8 @@ pub(crate) fn sort_keys_of<K: KeyForm>(
     Ok(sort_keys)
 }
 
-// Puts sort keys in the order of their pieces' bytes. Those of equal keys are in the order of the lines.
+// Puts sort keys in the order of their pieces' bytes. With `Piece::Key` those of equal keys are in the order of the
+// lines.
 pub(crate) fn order_keys<K: KeyForm>(text: &[u8], by: Piece, sort_keys: &mut Vec<SortKey<K>>)
     ensures permutation { IsPermutation sort_keys.old.items sort_keys.new.items }
     ensures sorted { IsSortedBy (λ a b. is_lt (sort_key_cmp by text.now a b)) sort_keys.new.items }

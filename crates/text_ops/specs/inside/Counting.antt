@@ -24,23 +24,23 @@ abbrev pub CountsOneMore : List ℕ → List CountedLine → List CountedLine �
 CountsOneMore line old new = (v : List ℕ) → times_counted v new ≡ times_counted v old + (if bytes_eq v line then 1 else 0)
 
 -- the row is the line's
-pub record IsRowOf (rows : List CountedLine) (line : List ℕ) (k : ℕ) : Type 0 where
+pub record IsLineRow (rows : List CountedLine) (line : List ℕ) (k : ℕ) : Type 0 where
   pub below : k < length rows
   pub same : (d : CountedLine) → (slice_index_or rows k d).line.now ≡ line
 
 -- a row that was found is the line's
 abbrev pub IsFound : List CountedLine → List ℕ → Probed → Type 0
-IsFound rows line (Row k) = IsRowOf rows line k
+IsFound rows line (Row k) = IsLineRow rows line k
 IsFound rows line (Free slot) = Unit {0}
 IsFound rows line Crowded = Unit {0}
 
 -- each line is less than the next
-abbrev pub AreRising : List CountedLine → Type 0
-AreRising rows = AllAdjacentBelow (λ (a b : CountedLine). IsTrue (is_lt (line_cmp a.line.now b.line.now))) rows (length rows)
+abbrev pub AreRisingLines : List CountedLine → Type 0
+AreRisingLines rows = AllAdjacentBelow (λ (a b : CountedLine). IsTrue (is_lt (line_cmp a.line.now b.line.now))) rows (length rows)
 
 -- the rows are those of a text's different lines, in order
 pub record AreDifferentLines (text : List ℕ) (rows : List CountedLine) : Type 0 where
-  pub rising : AreRising rows
+  pub rising : AreRisingLines rows
   pub counts : (v : List ℕ) → times_counted v rows ≡ count_of v (lines_of text)
 
 -- what was counted so far, and the lines that are left, are those of the text
@@ -48,5 +48,5 @@ abbrev pub CountsSoFar : List ℕ → List CountedLine → List (List ℕ) → T
 CountsSoFar text rows left = (v : List ℕ) → times_counted v rows + count_of v left ≡ count_of v (lines_of text)
 
 -- a row as a line of a tally
-abbrev pub row_line : CountedLine → List ℕ
-row_line row = numbered_line row.count row.line.now
+abbrev pub counted_row_line : CountedLine → List ℕ
+counted_row_line row = numbered_line row.count row.line.now
