@@ -10,10 +10,11 @@ workers, so the runs end only after so many (`--past`) that came to no Nth call.
 with what it prints with ample memory, or with the same code and output and no line on standard error, for which there
 was no memory, or with code 13 and the line of it, or without that line where each later allocation fails, and a prefix
 of the output. An example has the options that its file options.txt says; where it is run in rounds, some of its runs
-have to end without memory behind a whole first round. Without an example it takes ten. With `--seconds` it takes random graphs in their place, of which one in
-four is upgraded; those with conditions or semaphores are run by one worker and others by 1, 4 or 16, until so many
-seconds have passed or a run ended in another way. It needs a C compiler and prints for each example how many runs ended
-in which way, of random graphs for all together, and ends with status 1 where one ended in another.
+have to end without memory behind a whole first round. Without an example it takes ten. With `--seconds` it takes random
+graphs in their place, of which one in four is upgraded; those with conditions or semaphores are run by one worker and
+others by 1, 4 or 16, until so many seconds have passed or a run ended in another way. It needs a C compiler and prints
+for each example how many runs ended in which way, of random graphs for all together, and ends with status 1 where one
+ended in another.
 """
 import argparse
 import collections

@@ -5,12 +5,12 @@
 
 At no edge that was signalled may a start find nothing, and each end that signalled an edge may be found there once. So
 of the ends that signalled an edge as many aren't found as tokens were dropped or left there. By one worker, where no
-token was dropped, they are found in the order of the journal. Besides random graphs three are run N times (`--runs`)
-by each number of workers: the three branches of a `route` that come together again, a loop that two texts go round,
-and four reads before a loop before a join. In two more graphs, run once by each number of workers, a loop signals one
-edge 50,000 times (`--queue`), whose target starts whenever a worker gets to it, or has to wait for a second loop. Prints a line for each difference, how
-many inputs were found, and how many values waited at one edge at most, and ends with status 1 where there was a
-difference.
+token was dropped, they are found in the order of the journal. Besides random graphs three are run N times (`--runs`) by
+each number of workers: the three branches of a `route` that come together again, a loop that two texts go round, and
+four reads before a loop before a join. In two more graphs, run once by each number of workers, a loop signals one edge
+50,000 times (`--queue`), whose target starts whenever a worker gets to it, or has to wait for a second loop. Prints a
+line for each difference, how many inputs were found, and how many values waited at one edge at most, and ends with
+status 1 where there was a difference.
 """
 import argparse
 import collections
