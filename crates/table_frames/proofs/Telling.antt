@@ -1,19 +1,43 @@
 -- What a watcher is told where a run by one thread goes on.
-use Rattle.std.proofs.Common.{◌≡◌, ℕ, ◌+◌, ◌-◌, ◌^◌, ◌<◌, ◌≤◌, ◌++◌, ◌∷◌, [], Option, Some, None, min, refl, sym, ap, ◌∙◌, arith}
-use Rattle.std.specs.Prelude.{Result, Ok, Err, IfOk}
+use Rattle.std.proofs.Common.{◌≡◌, ℕ, ◌+◌, ◌-◌, ◌^◌, ◌<◌, ◌≤◌, ◌++◌, ◌∷◌, [], Option, Some, None, min, refl, sym, ap, ◌∙◌, subst, arith}
+use Rattle.std.specs.Prelude.{Result, Ok, Err, IfOk, OnOk}
 use Rattle.std.proofs.Math.Nat.{min-eq_left}
 use Rattle.join_tables.specs.declared.fates.Fate.{Fate}
 use Rattle.run_frame.specs.Meaning.{Meaning}
 use Rattle.run_frame.specs.declared.run.FrameRun.{FrameRun}
-use Rattle.span_profile.specs.Watch.{IsToldSince, TellsOn}
+use Rattle.span_profile.specs.Watch.{IsToldSince, TellsOn, one_more}
+use Rattle.join_tables.specs.declared.fates.Fate.TheVariants.{AllDropped, Dropped, Ended, Faulted}
 use Rattle.table_runs.specs.Openings.{IsOverAtOnce}
-use Rattle.table_runs.specs.Spans.{spans_done, spans_in, spans_inside, spans_made}
+use Rattle.table_frames.specs.inside.Benches.{spans_told}
+use Rattle.table_runs.specs.Spans.{span_of, spans_done, spans_in, spans_inside, spans_made}
 use Rattle.table_runs.specs.declared.done_turns.DoneTurns.{DoneTurns}
 use Rattle.table_runs.proofs.Counting.{spans_append}
 
 -- a count goes up to this number
 abbrev most : ℕ
 most = 2 ^ 64 - 1
+
+-- a watcher that counted one more was told one more
+pub tells_one : {A E X : Type 0} (told : X → ℕ) (r : Result A E) (old new : X) → OnOk r (told new ≡ one_more (told old)) → OnOk r ((n : ℕ) → TellsOn told n (n + 1) old new)
+tells_one told (Ok a) old new more = λ n before is. omega (arith, more, is)
+tells_one told (Err e) old new more = tt
+
+-- what holds in any case
+pub in_any_case : {A E : Type 0} {P : Type 0} (r : Result A E) → P → OnOk r P
+in_any_case (Ok a) p = p
+in_any_case (Err e) p = tt
+
+-- so many more
+pub tells_more : {A E X : Type 0} (told : X → ℕ) (r : Result A E) (m n k : ℕ) (old new : X) → n ≡ m + k → OnOk r ((p : ℕ) → TellsOn told p (p + k) old new) → OnOk r (TellsOn told m n old new)
+tells_more told (Ok a) m n k old new is tells = subst (λ p. TellsOn told m p old new) (sym is) (tells m)
+tells_more told (Err e) m n k old new is tells = tt
+
+-- the span of a fate is told where it ends one
+pub told_of_fate : {V : Type 0} (depth : ℕ) (fate : Fate V) → spans_told (span_of depth fate) ≡ spans_in (fate ∷ [])
+told_of_fate depth (Ended e) = refl
+told_of_fate depth (Faulted f) = refl
+told_of_fate depth (Dropped d) = refl
+told_of_fate depth (AllDropped drops) = refl
 
 -- where as many spans are there as before, it need be told none
 pub tells_same : {X : Type 0} (told : X → ℕ) (m n : ℕ) (watcher : X) → m ≡ n → TellsOn told m n watcher watcher

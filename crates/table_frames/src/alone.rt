@@ -7,16 +7,16 @@ ghost use Rattle.run_frame.specs.Legal.{IsKept};
 ghost use Rattle.run_frame.specs.NestedRule.{job_of};
 ghost use Rattle.table_frames.specs.Frames.{root_job};
 ghost use Rattle.semaphore_turns.specs.HeldUnits.{HoldsAll, LacksUnit};
-ghost use Rattle.table_frames.specs.inside.Benches.{IsBenchOf};
+ghost use Rattle.table_frames.specs.inside.Benches.{DiffersInRoom, HasRoomFor, IsBenchOf, spans_told};
 ghost use Rattle.table_frames.specs.inside.TriedReleases.{IsTakenIn};
 ghost use Rattle.table_runs.specs.Attempts.{IsAttemptIn};
 ghost use Rattle.table_runs.specs.Openings.{IsInnerIn};
 ghost use Rattle.table_runs.specs.Runs.{AreOf};
-ghost use Rattle.table_runs.specs.Spans.{spans_done, spans_in, spans_made};
+ghost use Rattle.table_runs.specs.Spans.{spans_done, spans_made};
 ghost use Rattle.span_profile.specs.Watch.{IsToldSince, TellsOn};
 
 use super::level::{Level, Next};
-use join_tables::Fate;
+use journal_rules::Span;
 use outside_io::NoMemory;
 use run_frame::{FrameRun, Job};
 use semaphore_turns::{Parking, ReadyTurn, Settled, TakenUnits, TurnYard, wake_turns};
@@ -104,6 +104,18 @@ impl<J: Job + Drop> Bench<J> {
             depth,
         })
     }
+
+    // Makes room for one more turn that is done, and for so many releases, both where a step makes them and among those
+    // that may be taken up.
+    fn make_room(&mut self, releases: usize) -> Result<(), NoMemory>
+        ensures same { DiffersInRoom self.old self.new }
+        ensures room { OnOk result (HasRoomFor releases self.new) }
+    {
+        self.done.make_room()?;
+        self.made.reserve(releases)?;
+        self.ready.reserve(releases)?;
+        Ok(())
+    }
 }
 
 /// Takes the step of a release. Where it isn't parked and no run begins in place of its work, its turn is done then,
@@ -148,8 +160,7 @@ fn park<J: Job + Drop, X: Watch>(
 {
     let TakenUp { turn, again, woken } = taken;
     let count = run.count_takes(&turn) + 1;
-    bench.made.reserve(count)?;
-    bench.ready.reserve(count)?;
+    bench.make_room(count)?;
     match run.park(&mut bench.yard, turn, place, woken, &mut bench.made)? {
         Parking::Taken(turn) => work(run, bench, TakenUp { turn, again, woken }, watcher),
         Parking::Parked(_) => {
@@ -198,25 +209,22 @@ pub(crate) fn conclude<J: Job + Drop, X: Watch>(
     ensures told { OnOk result (TellsOn X.told (spans_done bench.old.done + spans_made attempt.inner)
         (spans_done bench.new.done) watcher.old watcher.new) }
 {
-    bench.done.make_room()?;
     let back = run.units_back(&attempt.outcome);
-    let room = attempt.room() + back.len();
-    bench.made.reserve(room)?;
-    bench.ready.reserve(room)?;
+    bench.make_room(attempt.room() + back.len())?;
     let turn = run.conclude(attempt, &mut bench.made);
-    tell(watcher, turn.spent.fate(), bench.depth)?;
+    let span = span_of(turn.spent.fate(), bench.depth);
     run.gather(&mut bench.done, turn);
     wake_turns(&mut bench.yard, back, &mut bench.made);
     add_all(&mut bench.ready, &mut bench.made);
-    Ok(())
+    tell(watcher, span)
 }
 
-// Tells a watcher the span that a fate ends, if it ends one, in a run that is inside so many.
-fn tell<V, X: Watch>(watcher: &mut X, fate: &Fate<V>, depth: u32) -> Result<(), NoMemory>
+// Tells a watcher a span, if there is one.
+fn tell<X: Watch>(watcher: &mut X, span: Option<Span>) -> Result<(), NoMemory>
     ensures { OnOk result ((n : ℕ)
-        → TellsOn X.told n (n + spans_in (fate.now ∷ [])) watcher.old watcher.new) }
+        → TellsOn X.told n (n + spans_told span) watcher.old watcher.new) }
 {
-    match span_of(fate, depth) {
+    match span {
         Some(span) => watcher.span(span),
         None => Ok(()),
     }
@@ -228,8 +236,7 @@ pub(crate) fn settle<J: Job + Drop>(run: &TableRun<J>, bench: &mut Bench<J>) -> 
     ensures bench { OnOk result (IsBenchOf J.meaning run.now bench.new) }
     ensures spans { OnOk result (spans_done bench.new.done ≡ spans_done bench.old.done) }
 {
-    bench.ready.reserve(1)?;
-    bench.done.make_room()?;
+    bench.make_room(1)?;
     match run.settle(&mut bench.yard)? {
         Settled::Waits => {}
         Settled::Goes(ready) => bench.ready.push_reserved(ready),

@@ -82,8 +82,7 @@ impl<J: Job + Drop> Frame<J> {
         let TakenUp { turn, again, woken } = taken;
         backlog.batch.make_room(&frame)?;
         let count = frame.count_takes(&turn) + 1;
-        let room = ReleaseRoom::new(backlog.alloc, &frame, count)?;
-        backlog.made.reserve(count)?;
+        let room = ReleaseRoom::with_turns(backlog.alloc, &frame, count, &mut backlog.made)?;
         match frame.park_turn(rt, turn, place, woken, &mut backlog.made)? {
             Parking::Taken(turn) => Frame::work(rt, frame, TakenUp { turn, again, woken }, backlog),
             Parking::Parked(turn) => {
@@ -152,8 +151,7 @@ impl<J: Job + Drop> Frame<J> {
         ensures none { made.new.items ≡ [] }
     {
         let count = frame.room_for(&attempt);
-        let room = ReleaseRoom::new(frame.heap(), &frame, count)?;
-        made.reserve(count)?;
+        let room = ReleaseRoom::with_turns(frame.heap(), &frame, count, made)?;
         frame.conclude(rt, attempt, returned, batch, made);
         Ok(room.hand_out(frame, made))
     }

@@ -1,6 +1,6 @@
 // Releases, each with its frame.
-ghost use Rattle.std.specs.Prelude.{◌≡◌, [], All, IfOk, map};
-ghost use Rattle.std.specs.Vec.{vec_len};
+ghost use Rattle.std.specs.Prelude.{◌≡◌, ◌+◌, ◌≤◌, [], All, IfOk, OnOk, map};
+ghost use Rattle.std.specs.Vec.{vec_capacity, vec_len};
 ghost use Rattle.std.specs.Arc.{arc_value};
 ghost use Rattle.join_tables.specs.States.{FreshState};
 
@@ -102,6 +102,21 @@ impl<J: Job + Drop> ReleaseRoom<J> {
         let releases = Vec::with_capacity(alloc, count)?;
         let others = owners(alloc, frame, count.saturating_sub(1))?;
         Ok(ReleaseRoom { others, releases })
+    }
+
+    /// Room for so many, and for the turns that they are made of.
+    pub(crate) fn with_turns(
+        alloc: Global,
+        frame: &Arc<Frame<J>>,
+        count: usize,
+        made: &mut Vec<ReadyTurn<J::V>>,
+    ) -> Result<ReleaseRoom<J>, NoMemory>
+        ensures room { IfOk result (HasRoom (arc_value frame.now) count) }
+        ensures same { made.new.items ≡ made.old.items }
+        ensures turns { OnOk result (vec_len made.old + count ≤ vec_capacity made.new) }
+    {
+        made.reserve(count)?;
+        ReleaseRoom::new(alloc, frame, count)
     }
 
     /// A release for each of these turns of a frame, in their order. The first takes this owner of the frame. No memory
