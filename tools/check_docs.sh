@@ -113,7 +113,7 @@ done
 
 # The code in docs/LIBRARY.md is that of crates that the gate proves and runs. The graph files and scripts in docs/HANDBOOK.md
 # are those of examples.
-python3 -B tools/quoted_code.py docs/LIBRARY.md library_tour async_tasks desk_book grain_tasks run_desk test_async test_desk test_grains || fault "docs/LIBRARY.md quotes other code than there is"
+python3 -B tools/quoted_code.py docs/LIBRARY.md library_tour async_tasks desk_book grain_tasks run_desk desk_trials test_grains || fault "docs/LIBRARY.md quotes other code than there is"
 python3 -B tools/quoted_code.py docs/HANDBOOK.md examples/ || fault "docs/HANDBOOK.md quotes other files than those of examples"
 
 # Each file of the repository that a document links to or names in code letters is there.

@@ -21,9 +21,9 @@ OMITTED = {
     "definitions, laws, and trials of both: no call of them is refused": (
         "claims", "library_claims", "pipe_laws", "pipe_values", "report_laws", "run_laws",
     ),
-    "a program, or a crate of tests or measurements": (
-        "bench", "flow", "library_tour", "test_async", "test_calls", "test_desk", "test_desk_book", "test_graphs",
-        "test_grains", "test_jobs", "test_lines", "test_nets", "test_parts", "test_runs",
+    "a program, or a crate for tests or measurements": (
+        "async_trials", "bench", "desk_trials", "flow", "library_tour", "test_async", "test_calls", "test_desk",
+        "test_graphs", "test_grains", "test_jobs", "test_lines", "test_nets", "test_parts", "test_runs",
     ),
     "called by one crate above, whose answers are in a table": ("graph_drafts", "table_steps"),
     "parts of other crates' answers, which are in their tables": ("journal_rules", "json_values"),

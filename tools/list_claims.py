@@ -16,7 +16,7 @@ CLAIM = re.compile(r"^\s*(?:pub )?([a-z_][a-z0-9_-]*) : (.*)$")
 CLAUSE = re.compile(r"ensures ([a-z_0-9]+) \{((?:[^{}]|\{[^{}]*\})*)\}")
 # Crates whose definitions are the claims' own nets and journals, or serve tests alone: of what these say only their
 # tests compute examples.
-EXAMPLES = ("claims", "library_claims", "library_tour", "test_async", "test_desk", "test_desk_book", "test_grains", "test_jobs")
+EXAMPLES = ("async_trials", "claims", "desk_trials", "library_claims", "library_tour", "test_grains", "test_jobs")
 # The definitions without a claim, by the reason.
 UNCLAIMED = {
     "what a law says of every run, where no run can fail it; the law's proof ties it": (

@@ -1,4 +1,5 @@
 // Rounds of a graph without tasks that are asked of a desk, and the same number without one.
+use desk_trials::{ByThreads, Demand, TickJob, run_of_callers, team};
 use outside_io::NoMemory;
 use span_profile::SpanCount;
 use std::alloc::{AllocError, Global};
@@ -6,8 +7,6 @@ use std::io;
 use std::sync::{Arc, Wait};
 use std::thread::Threads;
 use std::time::Clock;
-use test_desk::{ByThreads, Demand, run_of_callers, team};
-use test_desk_book::TickJob;
 use topology_runs::run_times;
 
 // What is asked: by each of four callers 2,500 times for one round.

@@ -1,3 +1,1 @@
-mod ManyPasses
 mod OnePass
-mod SumCrossing

@@ -3,8 +3,8 @@ ghost use Rattle.std.specs.Prelude.{◌≡◌, ◌≤◌, length};
 ghost use Rattle.std.proofs.Props.{props};
 ghost use Rattle.async_tasks.specs.AsyncBooks.{IsPassOf, IsSeatOf};
 
-use crate::add_to::{AddTo, Refused};
 use async_tasks::{AsyncBook, AsyncParts, AsyncRun, AsyncSeat, AsyncStep, Finished, Pass};
+use async_trials::{AddTo, Refused};
 use outside_io::NoMemory;
 use std::alloc::Global;
 use std::sync::{Arc, Wait};

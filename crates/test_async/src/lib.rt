@@ -1,11 +1,9 @@
 //! Books of async tasks: what a book of sums comes to, what is refused, and threads that add and step side by side.
+//! There is nothing here but tests. `async_trials` has the work and the threads.
 #![tactic(auto)]
 
-mod add_to;
 #[cfg(test)]
 mod alone;
-mod crowd_runs;
-mod crowds;
 #[cfg(test)]
 mod judged;
 #[cfg(test)]
@@ -14,7 +12,3 @@ mod refusals;
 mod sums;
 #[cfg(test)]
 mod two_callers;
-
-pub use add_to::{AddTo, Refused};
-pub use crowd_runs::run_of_two_callers;
-pub use crowds::{CallerAdds, Crowd, Side, add_together, step_together, work_together};

@@ -1,7 +1,7 @@
 // What a book refuses.
-use crate::add_to::Refused;
 use crate::alone::{Alone, Outcome};
 use async_tasks::AsyncStep;
+use async_trials::Refused;
 use std::test::Fail;
 
 // Of three sums: after a task that isn't there, and after as many tasks as an add may name.

@@ -1,8 +1,8 @@
 // A book of sums by one caller and one worker.
-use crate::add_to::AddTo;
 use crate::alone::{Alone, Outcome};
 use crate::judged::{printed, verdict_on};
 use async_tasks::{AsyncRun, AsyncStep, TaskEvent};
+use async_trials::AddTo;
 use legal_run::Verdict;
 use std::test::Fail;
 

@@ -1,8 +1,7 @@
 // Two callers that add 1,000 tasks each beside two workers.
-use crate::add_to::AddTo;
-use crate::crowd_runs::run_of_two_callers;
 use crate::judged::verdict_on;
 use async_tasks::AsyncRun;
+use async_trials::{AddTo, run_of_two_callers};
 use legal_run::Verdict;
 use std::test::Fail;
 

@@ -1,5 +1,5 @@
 // Two callers that ask beside two that serve, each by a thread.
-use crate::trial::{Demand, run_of_callers};
+use desk_trials::{Demand, run_of_callers};
 use std::test::Fail;
 
 const DEMAND: Demand = Demand {

@@ -1,11 +1,10 @@
 // Asks that are cut where memory is refused to a round, and only there.
-use crate::workers::{ByThreads, team};
+use desk_trials::{ByThreads, TickJob, TwoCallers, callers_of, finish, team};
 use outside_io::NoMemory;
 use run_desk::{Ask, DeskEnd, DeskEntry, DeskRun, Served, serve};
 use std::sync::Wait;
 use std::test::Fail;
 use std::thread::Threads;
-use test_desk_book::{TickJob, TwoCallers, callers_of, finish};
 
 // A job of which there is memory for some rounds, an ask for so many of it, and what serving it comes to.
 struct Case {

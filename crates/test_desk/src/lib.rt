@@ -1,8 +1,16 @@
-//! Desks that are served: whose turn it is, what is refused, asks that are cut, and callers that ask beside callers
-//! that serve. Besides the tests there are workers for a desk here, and a desk of which some threads ask while others
-//! serve it.
+//! Desks, and their books without running anything. There is nothing here but tests.
+//!
+//! Of the books: whose turn it is, what is refused, what finishing comes to, and callers that ask beside callers that
+//! take. Of desks that are served: the same, asks that are cut, and callers that ask beside callers that serve.
+//! `desk_trials` has the job, the desks and the workers.
 #![tactic(auto)]
 
+#[cfg(test)]
+mod book_callers;
+#[cfg(test)]
+mod book_refusals;
+#[cfg(test)]
+mod book_turns;
 #[cfg(test)]
 mod callers;
 #[cfg(test)]
@@ -11,8 +19,3 @@ mod cuts;
 mod refusals;
 #[cfg(test)]
 mod served;
-mod trial;
-mod workers;
-
-pub use trial::{Demand, run_of_callers};
-pub use workers::{ByThreads, team};

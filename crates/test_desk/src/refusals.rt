@@ -1,9 +1,8 @@
-// What a desk refuses, and what serving and finishing it comes to where an ask may not be taken. A full desk is tested
-// in `test_desk_book`.
-use crate::workers::{ByThreads, team};
+// What a desk refuses, and what serving and finishing it comes to where an ask may not be taken. `book_refusals.rt` has
+// a full desk.
+use desk_trials::{ByThreads, Said, TwoCallers, finish, take, team, two_callers};
 use run_desk::{DeskEnd, DeskError, Served, serve};
 use std::test::Fail;
-use test_desk_book::{Said, TwoCallers, finish, take, two_callers};
 
 // The second caller takes the first ask of a graph and does not end it.
 #[test]

@@ -2,13 +2,12 @@
 ghost use Rattle.std.specs.Prelude.{◌≡◌};
 ghost use Rattle.desk_book.specs.Desks.{IsPassOf};
 
-use crate::workers::{ByThreads, team};
+use desk_trials::{ByThreads, TickJob, TwoCallers, finish, team, two_callers};
 use outside_io::List;
 use run_desk::{Ask, Desk, DeskEnd, DeskEntry, DeskPass, Served, serve};
 use run_frame::FrameRun;
 use std::sync::Wait;
 use std::test::Fail;
-use test_desk_book::{TickJob, TwoCallers, finish, two_callers};
 
 const FIRST: Ask = Ask {
     number: 0,

@@ -2,12 +2,12 @@
 ghost use Rattle.std.specs.Prelude.{◌≤◌};
 
 use async_tasks::{AsyncBook, AsyncParts};
+use async_trials::{CallerAdds, Crowd, add_together, step_together};
 use std::alloc::{AllocError, Global};
 use std::io;
 use std::sync::Wait;
 use std::thread::Threads;
 use std::time::{Clock, Instant};
-use test_async::{CallerAdds, Crowd, add_together, step_together};
 
 // What the caller adds. The turns of a task take about two microseconds.
 pub const ADDS: CallerAdds = CallerAdds {

@@ -1,9 +1,9 @@
 // Two callers that add chains beside two workers.
+use async_trials::run_of_two_callers;
 use std::alloc::{AllocError, Global};
 use std::io;
 use std::sync::Wait;
 use std::thread::Threads;
-use test_async::run_of_two_callers;
 
 // How many tasks each caller adds.
 const TASKS: u32 = 50_000;

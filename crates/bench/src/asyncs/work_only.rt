@@ -1,11 +1,11 @@
 // The work of the tasks that wait for nothing, without a book.
 use crate::asyncs::apart::ADDS;
 use async_tasks::AsyncWork;
+use async_trials::AddTo;
 use outside_io::{List, NoMemory};
 use std::alloc::{AllocError, Global};
 use std::io;
 use std::time::{Clock, Instant};
-use test_async::AddTo;
 
 /// Prints how long the work takes, with the sum of what it comes to.
 pub fn measure<R: Clock + Print>(rt: &R, alloc: Global) -> io::Result<()> {

@@ -1,0 +1,2 @@
+mod ManyPasses
+mod SumCrossing

@@ -1,0 +1,3 @@
+pub mod ManyPasses
+pub mod TickCrossing
+mod TwoPasses

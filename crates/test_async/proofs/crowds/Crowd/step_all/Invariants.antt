@@ -1,5 +1,0 @@
-use Rattle.async_tasks.specs.AsyncBooks.{IsSeatOf}
-use Rattle.test_async.proofs.crowds.Crowd.step_all.Given as goal
-
-abbrev pub invariant-loop : goal.invariant-loop
-invariant-loop g l = IsSeatOf l.self.book l.seat

@@ -1,3 +1,0 @@
-pub mod TickCrossing
-mod TwoPasses
-pub mod ManyPasses

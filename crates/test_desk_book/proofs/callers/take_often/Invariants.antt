@@ -1,6 +1,0 @@
-use Rattle.std.proofs.Common.{◌≡◌}
-use Rattle.desk_book.specs.Desks.{IsPassOf}
-use Rattle.test_desk_book.proofs.callers.take_often.Given as goal
-
-abbrev pub invariant-loop : goal.invariant-loop
-invariant-loop g l = IsPassOf l.desk l.pass × (l.pass.caller ≡ l.initial.pass.caller)
