@@ -40,8 +40,8 @@ pub fn measure<R: Threads + Wait + Clock + Print + Sync>(
 
 // How many rounds one team has run.
 fn rounds_of_a_team<R: Threads + Wait + Sync>(rt: &R, alloc: Global) -> Result<usize, NoMemory> {
-    let mut alone = team(alloc, 1)?;
     let job = Arc::new(alloc, TickJob::of_tasks(alloc, 0)?)?;
+    let mut alone = team(alloc, 1)?;
     let count = ROUNDS as u64;
     match run_times::<TickJob, SpanCount, ByThreads, R>(rt, alloc, &mut alone, &job, count) {
         Ok(runs) => Ok(runs.len()),

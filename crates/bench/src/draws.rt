@@ -26,11 +26,20 @@ pub fn measure<R: Threads + Clock + Print + Sync>(
     word: &str,
     text: &Text,
 ) -> io::Result<()> {
-    let Ok(fold) = WordFold::new(alloc, word.as_bytes(), text) else {
-        return Err(AllocError.into());
-    };
+    match WordFold::new(alloc, word.as_bytes(), text) {
+        Ok(fold) => measure_fold(rt, alloc, &fold),
+        Err(_) => Err(AllocError.into()),
+    }
+}
+
+// Prints for each number of workers the least microseconds of the fold.
+fn measure_fold<R: Threads + Clock + Print + Sync>(
+    rt: &R,
+    alloc: Global,
+    fold: &WordFold<'_>,
+) -> io::Result<()> {
     for workers in [1, 2, 4].iter() {
-        let micros = least_of(rt, alloc, *workers, &fold)?;
+        let micros = least_of(rt, alloc, *workers, fold)?;
         println!(rt; "{workers} {micros}")?;
     }
     Ok(())

@@ -1,7 +1,7 @@
 // Runs of a machine, and the judge's walk over a journal.
 use crate::clock::{micros_since, nanos_since};
 use crate::nets::{NetKind, net_of};
-use journal_rules::{Cause, MAX_LIMIT};
+use journal_rules::{Cause, Journal, MAX_LIMIT};
 use legal_run::{Verdict, judge};
 use net_machine::{Machine, MachineError};
 use std::alloc::AllocError;
@@ -36,18 +36,29 @@ const STARTS: u32 = 1_500_000;
 pub fn measure(rt: &HostRuntime) -> io::Result<()> {
     for (kind, tasks, edges, name) in &NETS {
         let net = net_of(rt.alloc(), *kind, *tasks, *edges)?;
-        let mut machine = machine_on(rt, &net)?;
-        let begun = Instant::now(rt)?;
-        run_in_order(&mut machine, &net).map_err(|_| AllocError)?;
-        let micros = micros_since(rt, begun)?;
-        let rests = machine.at_rest();
-        println!(rt; "{name}: led to rest in {micros} us, {rests}")?;
+        measure_net(rt, &net, name)?;
     }
-    measure_loop(rt)
+    let tasks = CHOICES + 1;
+    let net = net_of(rt.alloc(), NetKind::Loop, tasks, tasks)?;
+    measure_loop(rt, &net)
 }
 
 fn machine_on(rt: &HostRuntime, net: &Arc<Net>) -> io::Result<Machine> {
     Machine::new(rt.alloc(), Arc::try_clone(net)?, MAX_LIMIT).map_err(|_| AllocError.into())
+}
+
+// Measures how long a net is led to rest.
+fn measure_net(rt: &HostRuntime, net: &Arc<Net>, name: &str) -> io::Result<()> {
+    let mut machine = machine_on(rt, net)?;
+    lead_to_rest(rt, &mut machine, net, name)
+}
+
+// Leads the machine to rest, and prints how long it took.
+fn lead_to_rest(rt: &HostRuntime, machine: &mut Machine, net: &Net, name: &str) -> io::Result<()> {
+    let begun = Instant::now(rt)?;
+    run_in_order(machine, net).map_err(|_| AllocError)?;
+    let micros = micros_since(rt, begun)?;
+    println!(rt; "{name}: led to rest in {micros} us, {}", machine.at_rest())
 }
 
 // Starts and ends each task in the order of their numbers.
@@ -65,18 +76,28 @@ fn run_in_order(machine: &mut Machine, net: &Net) -> Result<(), MachineError> {
 }
 
 // Measures a start of a condition with its end, and the judge on the journal of many.
-fn measure_loop(rt: &HostRuntime) -> io::Result<()> {
-    let tasks = CHOICES + 1;
-    let net = net_of(rt.alloc(), NetKind::Loop, tasks, tasks)?;
-    let mut machine = machine_on(rt, &net)?;
+fn measure_loop(rt: &HostRuntime, net: &Arc<Net>) -> io::Result<()> {
+    let mut machine = machine_on(rt, net)?;
+    go_round(rt, &mut machine)?;
+    judge_journal(rt, net, machine.journal())
+}
+
+// Goes round the loop, and prints how long a start with its end took.
+fn go_round(rt: &HostRuntime, machine: &mut Machine) -> io::Result<()> {
     let begun = Instant::now(rt)?;
-    turn(&mut machine).map_err(|_| AllocError)?;
+    turn(machine).map_err(|_| AllocError)?;
     let nanos = nanos_since(rt, begun)? / STARTS as u64;
-    println!(rt; "1,000 Choice tasks in a loop: {nanos} ns a start with its end")?;
+    println!(rt; "1,000 Choice tasks in a loop: {nanos} ns a start with its end")
+}
+
+// Judges the journal of the loop, and prints how long it took.
+fn judge_journal(rt: &HostRuntime, net: &Net, journal: &Journal) -> io::Result<()> {
     let begun = Instant::now(rt)?;
-    let verdict = judge(rt.alloc(), &net, MAX_LIMIT, machine.journal());
+    let is_legal = matches!(
+        judge(rt.alloc(), net, MAX_LIMIT, journal),
+        Ok(Verdict::Legal)
+    );
     let micros = micros_since(rt, begun)?;
-    let is_legal = matches!(verdict, Ok(Verdict::Legal));
     println!(rt; "its journal of 3,000,000 entries: judged in {micros} us, {is_legal}")
 }
 

@@ -16,7 +16,9 @@ mod pitfalls;
 mod texts;
 mod threads;
 
-use std::{env, io};
+use files::{next_word, text_of};
+use std::env::{self, Args};
+use std::io;
 
 fn main(rt: HostRuntime) -> io::Result<()> {
     let mut words = env::args(&rt)?;
@@ -25,26 +27,26 @@ fn main(rt: HostRuntime) -> io::Result<()> {
         return Ok(());
     };
     match subject.as_str() {
-        "asyncs" => {
-            let word = files::next_word(&rt, &mut words);
-            asyncs::measure(&rt, rt.alloc(), word.as_str())
-        }
-        "desk" => {
-            let word = files::next_word(&rt, &mut words);
-            desk::measure(&rt, rt.alloc(), word.as_str())
-        }
+        "asyncs" => asyncs::measure(&rt, rt.alloc(), next_word(&rt, &mut words).as_str()),
+        "desk" => desk::measure(&rt, rt.alloc(), next_word(&rt, &mut words).as_str()),
         "draws" => {
-            let word = files::next_word(&rt, &mut words);
-            let text = files::text_of(&rt, &mut words)?;
-            draws::measure(&rt, rt.alloc(), word.as_str(), &text)
+            let word = next_word(&rt, &mut words);
+            draws::measure(&rt, rt.alloc(), word.as_str(), &text_of(&rt, &mut words)?)
         }
         "frames" => frames::measure(&rt, rt.alloc()),
-        "graphs" => graphs::measure(&rt, words),
-        "journals" => journals::measure(&rt, words),
-        "machine" => machine::measure(&rt),
-        "pitfalls" => pitfalls::measure(&rt),
-        "texts" => texts::measure(&rt, words),
         "threads" => threads::measure(&rt, rt.alloc()),
+        _ => measure_alone(&rt, subject.as_str(), &mut words),
+    }
+}
+
+// Measures a subject that needs no threads.
+fn measure_alone(rt: &HostRuntime, subject: &str, words: &mut Args) -> io::Result<()> {
+    match subject {
+        "graphs" => graphs::measure(rt, words),
+        "journals" => journals::measure(rt, words),
+        "machine" => machine::measure(rt),
+        "pitfalls" => pitfalls::measure(rt),
+        "texts" => texts::measure(rt, words),
         _ => println!(rt; "no such subject"),
     }
 }

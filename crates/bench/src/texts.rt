@@ -16,10 +16,10 @@ const TIMES: u8 = 8;
 /// Takes the name of an operation, a file and an operand, reads the file once, applies the operation eight times and
 /// prints the microseconds of one. With the name `copy` it copies as many bytes of the file as the operand says, each
 /// time to memory that wasn't used before.
-pub fn measure(rt: &HostRuntime, mut words: Args) -> io::Result<()> {
-    let name = next_word(rt, &mut words);
-    let text = text_of(rt, &mut words)?;
-    let operand = next_word(rt, &mut words);
+pub fn measure(rt: &HostRuntime, words: &mut Args) -> io::Result<()> {
+    let name = next_word(rt, words);
+    let text = text_of(rt, words)?;
+    let operand = next_word(rt, words);
     if name.as_str() == "copy" {
         copies(rt, operand.as_str(), &text)
     } else {
