@@ -6,7 +6,7 @@ use crate::nets::{CHOICE, MANY, NetCase, PLAIN, built};
 use outside_io::{List, NoMemory};
 use std::alloc::Global;
 use std::test::Fail;
-use task_graph::{BuildError, MAX_SEMAPHORES, Net, NetBuilder, Shape};
+use task_graph::{BuildError, MAX_SEMAPHORES, Net, NetBuilder, Shape, TaskRow};
 
 // Whether the edge from task 0 to task 1 that is there twice is listed twice at both.
 fn is_listed_twice(alloc: Global) -> Result<bool, Fail> {
@@ -45,14 +45,25 @@ const EDGES: [(u32, u32, bool, Result<u32, BuildError>); 7] = [
 // Whether the builder gives each of them its answer.
 fn are_edges_answered(alloc: Global) -> Result<bool, BuildError> {
     let mut builder = NetBuilder::new(alloc);
+    add_ends(alloc, &mut builder)?;
+    let answers = adds_or_refuses_edges(&mut builder);
+    let net = builder.finish();
+    Ok(answers && net.edges().len() == 3)
+}
+
+// Adds the two tasks.
+fn add_ends(alloc: Global, builder: &mut NetBuilder) -> Result<u32, BuildError> {
     builder.task(Shape::Plain, List::new(alloc), List::new(alloc))?;
-    builder.task(Shape::Choice, List::new(alloc), List::new(alloc))?;
+    builder.task(Shape::Choice, List::new(alloc), List::new(alloc))
+}
+
+fn adds_or_refuses_edges(builder: &mut NetBuilder) -> bool {
     for (from, to, token, answer) in &EDGES {
         if builder.edge(*from, *to, *token) != *answer {
-            return Ok(false);
+            return false;
         }
     }
-    Ok(builder.finish().edges().len() == 3)
+    true
 }
 
 #[test]
@@ -99,9 +110,16 @@ const HOLDERS: [Holder; 5] = [
 // Whether the builder gives each task with such semaphores its answer, and the last one its list in order.
 fn are_holders_answered(alloc: Global) -> Result<bool, NoMemory> {
     let mut builder = NetBuilder::new(alloc);
-    if !has_all_semaphores(&mut builder) {
-        return Ok(false);
-    }
+    let answers = has_all_semaphores(&mut builder) && adds_or_refuses_holders(alloc, &mut builder)?;
+    let net = builder.finish();
+    Ok(answers && keeps_last_holder(net.tasks()))
+}
+
+fn keeps_last_holder(tasks: &[TaskRow]) -> bool {
+    matches!(tasks, [row] if row.takes.as_slice() == [0, 9, 255].as_slice())
+}
+
+fn adds_or_refuses_holders(alloc: Global, builder: &mut NetBuilder) -> Result<bool, NoMemory> {
     for holder in &HOLDERS {
         let takes = List::from_slice(alloc, holder.takes)?;
         let puts = List::from_slice(alloc, holder.puts)?;
@@ -109,8 +127,7 @@ fn are_holders_answered(alloc: Global) -> Result<bool, NoMemory> {
             return Ok(false);
         }
     }
-    let net = builder.finish();
-    Ok(matches!(net.tasks(), [row] if row.takes.as_slice() == [0, 9, 255].as_slice()))
+    Ok(true)
 }
 
 // Whether as many semaphores are added as there may be, and no more.

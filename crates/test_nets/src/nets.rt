@@ -81,15 +81,24 @@ pub(crate) struct NetCase<'r> {
 /// The net of these rows.
 pub(crate) fn built(alloc: Global, rows: NetCase<'_>) -> Result<Arc<Net>, Fail> {
     let mut builder = NetBuilder::new(alloc);
+    add_rows(alloc, &mut builder, rows)?;
+    Ok(Arc::new(alloc, builder.finish())?)
+}
+
+// Adds the one semaphore, the tasks and the edges.
+fn add_rows(alloc: Global, builder: &mut NetBuilder, rows: NetCase<'_>) -> Result<(), BuildError> {
     builder.semaphore(1)?;
     for task in rows.tasks {
-        let takes = semaphores(alloc, task.takes())?;
-        let puts = semaphores(alloc, task.puts())?;
-        builder.task(task.shape, takes, puts)?;
+        add_task(alloc, builder, *task)?;
     }
-    add_edges(&mut builder, rows.edges, false)?;
-    add_edges(&mut builder, rows.rings, true)?;
-    Ok(Arc::new(alloc, builder.finish())?)
+    add_edges(builder, rows.edges, false)?;
+    add_edges(builder, rows.rings, true)
+}
+
+fn add_task(alloc: Global, builder: &mut NetBuilder, task: Task) -> Result<u32, BuildError> {
+    let takes = semaphores(alloc, task.takes())?;
+    let puts = semaphores(alloc, task.puts())?;
+    builder.task(task.shape, takes, puts)
 }
 
 // The one semaphore, or none.

@@ -7,6 +7,7 @@ use pipe_lines::{
 use std::alloc::Global;
 use std::process::Abort;
 use std::test::Fail;
+use task_graph::Net;
 
 // Lines and pipes, and how many tasks and edges their net has, or why they are refused.
 struct PipeCase {
@@ -60,16 +61,30 @@ fn pipelines_have_nets_or_are_refused(rt: HostRuntime) -> Result<(), Fail> {
             lines: case.lines,
             serial: List::from_slice(rt.alloc(), case.serial)?,
         };
-        match pipe_net(rt.alloc(), &spec) {
-            Ok(net) => {
-                let tags = along_pipes(rt.alloc(), &spec)?;
-                assert!(rt; case.answer == Ok((net.tasks().len(), tags.len())));
-                assert_eq!(rt; net.edges().len(), tags.len());
-            }
-            Err(error) => assert!(rt; case.answer == Err(error)),
-        }
+        check_pipes(&rt, rt.alloc(), case, &spec)?;
     }
     Ok(())
+}
+
+// The pipes have the net that was worked out, or are refused.
+fn check_pipes(
+    rt: &impl Abort,
+    alloc: Global,
+    case: &PipeCase,
+    spec: &PipeSpec,
+) -> Result<(), Fail> {
+    let tags = along_pipes(alloc, spec)?.len();
+    match pipe_net(alloc, spec) {
+        Ok(net) => check_counts(rt, case, &net, tags),
+        Err(error) => assert!(rt; case.answer == Err(error)),
+    }
+    Ok(())
+}
+
+// The net has as many tasks and edges as were worked out, and as many edges as there are tags.
+fn check_counts(rt: &impl Abort, case: &PipeCase, net: &Net, tags: usize) {
+    assert!(rt; case.answer == Ok((net.tasks().len(), tags)));
+    assert_eq!(rt; net.edges().len(), tags);
 }
 
 // How many tokens there are, and of those that are deferred the targets; which tokens pass, and what is behind the
@@ -133,15 +148,32 @@ const ORDERS: [OrderCase; 7] = [
 fn tokens_pass_in_their_order(rt: HostRuntime) -> Result<(), Fail> {
     for case in &ORDERS {
         let rows = rows_of(rt.alloc(), case.rows)?;
-        assert!(rt; case.tokens <= MAX_TOKENS && are_defer_rows(rows.as_slice()));
-        let order = pass_order(rt.alloc(), case.tokens, rows.as_slice())?;
-        assert_eq!(rt; order.passed.as_slice(), case.passed);
-        let mut gate = Gate::new(rt.alloc(), case.tokens, rows.as_slice())?;
-        for token in case.passed {
-            assert!(rt; gate.pass() == Passed::Token(*token));
-        }
-        assert!(rt; gate.copy()?.pass() == case.end && gate.pass() == case.end);
+        check_order(&rt, rt.alloc(), case, rows.as_slice())?;
     }
+    Ok(())
+}
+
+// By these rows the tokens have the order that was worked out, and a gate lets them pass in it.
+fn check_order(
+    rt: &impl Abort,
+    alloc: Global,
+    case: &OrderCase,
+    rows: &[DeferRow],
+) -> Result<(), Fail> {
+    assert!(rt; case.tokens <= MAX_TOKENS && are_defer_rows(rows));
+    let order = pass_order(alloc, case.tokens, rows)?;
+    assert_eq!(rt; order.passed.as_slice(), case.passed);
+    let mut gate = Gate::new(alloc, case.tokens, rows)?;
+    check_gate(rt, case, &mut gate)
+}
+
+// The gate lets the tokens pass that were worked out, and so does a copy at its end.
+fn check_gate(rt: &impl Abort, case: &OrderCase, gate: &mut Gate) -> Result<(), Fail> {
+    for token in case.passed {
+        assert!(rt; gate.pass() == Passed::Token(*token));
+    }
+    let mut copy = gate.copy()?;
+    assert!(rt; copy.pass() == case.end && gate.pass() == case.end);
     Ok(())
 }
 

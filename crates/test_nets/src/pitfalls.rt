@@ -138,25 +138,32 @@ const MILLION: u32 = 1_000_000;
 // Each task leads to the next one, and the last to the first.
 fn ring(alloc: Global) -> Result<Net, BuildError> {
     let mut builder = NetBuilder::new(alloc);
+    add_ring(alloc, &mut builder)?;
+    Ok(builder.finish())
+}
+
+fn add_ring(alloc: Global, builder: &mut NetBuilder) -> Result<(), BuildError> {
     for _ in 0..MILLION {
         builder.task(Shape::Plain, List::new(alloc), List::new(alloc))?;
     }
     for task in 0..MILLION {
         builder.edge(task, (task + 1) % MILLION, false)?;
     }
-    Ok(builder.finish())
+    Ok(())
 }
 
 // Whether each task of a ring is found to be on a cycle and never reached.
 fn is_ring_found(alloc: Global) -> Result<bool, Fail> {
     let findings = findings_of(alloc, &ring(alloc)?)?;
+    Ok(are_of_ring(findings.as_slice()))
+}
+
+fn are_of_ring(findings: &[Finding]) -> bool {
     let (count, last) = (MILLION as usize, MILLION - 1);
-    Ok(
-        findings.len() == 1 + 2 * count
-            && findings.first() == Some(&Finding::NoSource)
-            && findings.get(count) == Some(&Finding::StrongCycle(last))
-            && findings.last() == Some(&Finding::NeverReached(last)),
-    )
+    findings.len() == 1 + 2 * count
+        && findings.first() == Some(&Finding::NoSource)
+        && findings.get(count) == Some(&Finding::StrongCycle(last))
+        && findings.last() == Some(&Finding::NeverReached(last))
 }
 
 #[test]

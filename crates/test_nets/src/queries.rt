@@ -83,18 +83,25 @@ fn waits_with(machine: &Machine, task: u32, expected: &[Part]) -> Result<bool, N
     Ok(machine.rounds(task) == 0 && parts.as_slice() == expected)
 }
 
-// Whether the machine says before and after the round what was worked out: then task 4 has a token by one of its edges
-// and none by the other.
+// Whether a machine of the loop says what was worked out.
 fn is_led_round(alloc: Global) -> Result<bool, Fail> {
     let net = built(alloc, LOOP)?;
     if net.tasks().len() != 5 {
         return Ok(false);
     }
     let mut machine = Machine::new(alloc, net, 10)?;
-    let begins = are_ready(&machine, &AT_FIRST)?;
-    go_round(&mut machine);
-    let goes_on = are_ready(&machine, &AFTER_ROUND)?;
-    let waits = waits_with(&machine, 4, &[Part::From(7), Part::Nothing])?;
+    Ok(says_before_and_after(&mut machine)?)
+}
+
+// Whether the machine says before and after the round what was worked out: then task 4 has a token by one of its edges
+// and none by the other.
+fn says_before_and_after(machine: &mut Machine) -> Result<bool, NoMemory>
+    requires { 4 < length machine.old.net.tasks }
+{
+    let begins = are_ready(machine, &AT_FIRST)?;
+    go_round(machine);
+    let goes_on = are_ready(machine, &AFTER_ROUND)?;
+    let waits = waits_with(machine, 4, &[Part::From(7), Part::Nothing])?;
     Ok(begins && goes_on && waits)
 }
 

@@ -5,8 +5,10 @@ use journal_rules::{Cause, DropWhy, Why};
 use legal_run::Verdict;
 use net_machine::{Machine, MachineError};
 use std::alloc::Global;
+use std::process::Abort;
 use std::sync::Arc;
 use std::test::Fail;
+use task_graph::Net;
 
 const SOURCE: Cause = Cause::Source;
 
@@ -355,8 +357,13 @@ const RUNS: [SmallRun<'static>; 16] = [
 
 #[test]
 fn steps_are_answered_as_worked_out(rt: HostRuntime) -> Result<(), Fail> {
-    for (number, run) in RUNS.iter().enumerate() {
-        assert!(rt; is_answered(rt.alloc(), run)?, "run {number}");
+    check_runs(&rt, rt.alloc(), &RUNS)
+}
+
+// Each of these runs is answered as it says.
+fn check_runs(rt: &impl Abort, alloc: Global, runs: &[SmallRun<'_>]) -> Result<(), Fail> {
+    for (number, run) in runs.iter().enumerate() {
+        assert!(rt; is_answered(alloc, run)?, "run {number}");
     }
     Ok(())
 }
@@ -365,18 +372,40 @@ fn steps_are_answered_as_worked_out(rt: HostRuntime) -> Result<(), Fail> {
 fn is_answered(alloc: Global, run: &SmallRun<'_>) -> Result<bool, Fail> {
     let net = built(alloc, run.net)?;
     let mut machine = Machine::new(alloc, Arc::try_clone(&net)?, run.limit)?;
+    are_steps_answered(alloc, run, &mut machine, &net)
+}
+
+// Whether the machine and the judge answer each step so, and the machine is at rest then if the run says so.
+fn are_steps_answered(
+    alloc: Global,
+    run: &SmallRun<'_>,
+    machine: &mut Machine,
+    net: &Net,
+) -> Result<bool, Fail> {
     let mut taken = Vec::new(alloc);
     for (step, answer) in run.steps {
-        taken.push(*step)?;
-        let refused = broken_rule_of(judged(alloc, &net, run.limit, taken.as_slice())?);
-        if ask(&mut machine, *step) != *answer || refused != answer.err() {
+        let refused = refusal(alloc, net, run.limit, &mut taken, *step)?;
+        if ask(machine, *step) != *answer || refused != answer.err() {
             return Ok(false);
-        }
-        if refused.is_some() {
-            taken.pop();
         }
     }
     Ok(machine.at_rest() == run.is_at_rest)
+}
+
+// What the judge says against a step behind those that were taken. Where it says nothing, the step is taken too.
+fn refusal<'r>(
+    alloc: Global,
+    net: &Net,
+    limit: u64,
+    taken: &mut Vec<Step<'r>>,
+    step: Step<'r>,
+) -> Result<Option<MachineError>, Fail> {
+    taken.push(step)?;
+    let refused = broken_rule_of(judged(alloc, net, limit, taken.as_slice())?);
+    if refused.is_some() {
+        taken.pop();
+    }
+    Ok(refused)
 }
 
 fn broken_rule_of(verdict: Verdict) -> Option<MachineError> {
