@@ -177,7 +177,8 @@ def table(crates):
     small = []
     for crate, steps in sorted(crates.items(), key=lambda it: -total(it[1])):
         names = {name for name, _ in edits_of(crate)}
-        steps = {step: it for step, it in steps.items() if not step.startswith(EDIT) or step.removeprefix(EDIT) in names}
+        tried = {EDIT + name for name in names} | ({SEED} if names else set())
+        steps = {step: it for step, it in steps.items() if step in (PROOF, TESTS) or step in tried}
         edits = ", ".join(f"{steps[EDIT + name][0]:.1f}" for name in sorted(names) if EDIT + name in steps)
         if total(steps) < SMALL:
             small.append(total(steps))
