@@ -169,16 +169,21 @@ def machine():
     return f"{datetime.date.today()}; {processors}; commit {commit or 'unknown'}"
 
 
+def steps_left(crate, steps):
+    """The steps of a crate without those of edits that it doesn't have any more."""
+    edits = {EDIT + name for name, _ in edits_of(crate)}
+    return {step: it for step, it in steps.items() if step in (PROOF, TESTS) or step in edits or (step == SEED and edits)}
+
+
 def table(crates):
     """The table's lines, the crate that takes most first, and those that take least together."""
     lines = [f"Measured on {machine()}.", "", "| Crate | Its proof | Its tests | What its edits begin with | Its edits, each | Sum of processor time |", "|---|---|---|---|---|---|"]
     total = lambda steps: sum(processor for processor, _ in steps.values())
     sums = dict.fromkeys(("proof", "tests", "edits"), 0.0)
     small = []
+    crates = {crate: steps_left(crate, steps) for crate, steps in crates.items()}
     for crate, steps in sorted(crates.items(), key=lambda it: -total(it[1])):
         names = {name for name, _ in edits_of(crate)}
-        tried = {EDIT + name for name in names} | ({SEED} if names else set())
-        steps = {step: it for step, it in steps.items() if step in (PROOF, TESTS) or step in tried}
         edits = ", ".join(f"{steps[EDIT + name][0]:.1f}" for name in sorted(names) if EDIT + name in steps)
         if total(steps) < SMALL:
             small.append(total(steps))
